@@ -1,0 +1,4 @@
+pub mod Sums
+pub mod Calendar
+pub mod Hour
+pub mod Even
