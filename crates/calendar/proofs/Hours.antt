@@ -8,11 +8,12 @@ use lib.Dec.{T, eqb, ltb, leb}
 use Rattle.std.proofs.shelf.Ways.{tells, leb-tells}
 use mathlib.Core.Logic.{_⊎_, inl, inr}
 use Rattle.calendar.specs.declared.month.days.Hour.{Hour}
+use Rattle.std.specs.declared.option.Option.{Option}
 use Rattle.std.specs.declared.option.Option.the-variants.{Some, None}
 use Rattle.calendar.specs.Sums.{sumTo}
 use Rattle.calendar.specs.Calendar.{weekday, lastSunday, monthDays, daysBefore}
 use Rattle.calendar.specs.Even.{evenPlace}
-use Rattle.calendar.specs.Hour.{HourAt, hourAt, hourOf, dayAt, dayFrom, changeHours, dayHours, hoursBefore, monthHours, clockHour}
+use Rattle.calendar.specs.Hour.{HourAt, OneHour, hourAt, hourOf, dayAt, dayFrom, changeHours, dayHours, hoursBefore, monthHours, clockHour}
 
 -- a month has one last Sunday
 pub only : (m s d : ℕ) → T (lastSunday m s) → s < monthDays m → d < monthDays m → lastSunday m d ≡ eqb d s
@@ -160,28 +161,35 @@ hour-is m p h a =
     let g = ap (λ (d : ℕ). leb 5 (weekday m d)) e in
     same-hour h (dayAt m p) _ _ e (a .shown ∙ f) (a .free ∙ g)
 
--- no hour stands past the month's end
-pub past-end : (m p : ℕ) (h : Hour) → monthHours m ≤ p → HourAt m p h → ⊥
-past-end m p h e a =
-    let r = rises-to m (suc (h .day)) (monthDays m) (a .inside) in
-    let u = a .unended in
-    omega arith
-
--- the weekday counted on from that of the month's first day
-pub counted-on : (m d f : ℕ) → f ≡ weekday m 0 → (f + d) % 7 ≡ weekday m d
-counted-on m d f e = rw e (omega arith)
-
--- what the call for an hour promises, where h stands at the place
-pub the-hour : (m p : ℕ) (h : Hour) → p < monthHours m → HourAt m p h → Some h ≡ hourOf m p
-the-hour m p h k a = ap (λ x. Some x) (hour-is m p h a) ∙ grind (arith, tells)
-
-pub the-only : (m p : ℕ) (h : Hour) → HourAt m p h → (x : Hour) → HourAt m p x → Some h ≡ Some x
-the-only m p h a x b = ap (λ y. Some y) (hour-is m p h a ∙ sym (hour-is m p x b))
-
--- the hour found from what a month keeps stands at its place
-pub standing : (m s h f p e : ℕ) → T (lastSunday m s) → s < monthDays m → h ≡ changeHours (m % 12) → f ≡ weekday m 0 → p < monthHours m
-    → e ≡ evenPlace s h p → HourAt m p (record { day = e / 24; clock = e % 24; weekend = leb 5 ((f + e / 24) % 7) })
-standing m s h f p e t i c b k q =
+-- the hour found from what a month keeps stands at its place, and no other does
+pub standing : (m s h p e : ℕ) → T (lastSunday m s) → s < monthDays m → h ≡ changeHours (m % 12) → p < monthHours m → e ≡ evenPlace s h p
+    → (w : Bool) → w ≡ leb 5 (weekday m (e / 24)) → HourAt m p (record { day = e / 24; clock = e % 24; weekend = w })
+standing m s h p e t i c k q w b =
     let q′ : e ≡ evenPlace s (changeHours (m % 12)) p = q ∙ ap (λ x. evenPlace s x p) c in
-    subst (λ (w : ℕ). HourAt m p (record { day = e / 24; clock = e % 24; weekend = leb 5 w })) (sym (counted-on m (e / 24) f b))
-    (hour m s p e t i k q′)
+    subst (λ (w : Bool). HourAt m p (record { day = e / 24; clock = e % 24; weekend = w })) (sym b) (hour m s p e t i k q′)
+
+pub one-hour : (m p : ℕ) (h : Hour) → HourAt m p h → OneHour m p h
+one-hour m p h a = record { stands = a; only = λ x b. hour-is m p x b ∙ sym (hour-is m p h a) }
+
+-- the clock shows an hour below 24 at every place of a month
+pub clock-within : (m p : ℕ) → p < monthHours m → hourAt m p .clock < 24
+clock-within m p k =
+    let s = sundayOf m in
+    let e = evenPlace s (changeHours (m % 12)) p in
+    let a = hour m s p e (sunday-last m) (sunday-in (daysBefore m) (monthDays m) (month-bounds m .0)) k refl in
+    let c : e % 24 < 24 = omega arith in
+    subst (λ (h : Hour). h .clock < 24) (hour-is m p _ a) c
+
+some-same : (a b : Hour) → Some a ≡ Some b → a ≡ b
+some-same a b e = cc
+
+not-none : (h : Hour) → _≡_ {A = Option Hour} (Some h) None → ⊥
+not-none h e = let z : _≡_ {A = ℕ} 0 1 = cc in omega arith
+
+-- an hour that is found lies inside the month, and is the one at its place
+pub found-inside : (m p : ℕ) (h : Hour) → Some h ≡ hourOf m p → (p < monthHours m) × (h ≡ hourAt m p)
+found-inside m p h e =
+    elim (leb-tells (suc p) (monthHours m)) [
+      | inl t ↦ (t .1, some-same _ _ (e ∙ ap (λ (b : Bool). cond b (Some (hourAt m p)) None) (t .0)))
+      | inr t ↦ absurd (not-none _ (e ∙ ap (λ (b : Bool). cond b (Some (hourAt m p)) None) (t .0)))
+    ]

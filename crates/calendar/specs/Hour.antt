@@ -38,6 +38,11 @@ pub record HourAt (m p : ℕ) (h : Hour) : Type 0 where
   pub shown : h .clock ≡ clockHour (dayHours m (h .day)) (p - hoursBefore m (h .day))
   pub free : h .weekend ≡ leb 5 (weekday m (h .day))
 
+-- the hour h, and no other, stands at place p of month m
+pub record OneHour (m p : ℕ) (h : Hour) : Type 0 where
+  pub stands : HourAt m p h
+  pub only : (x : Hour) → HourAt m p x → x ≡ h
+
 -- the last day up to n that has begun at place p of month m
 unfoldable pub dayFrom : ℕ → ℕ → ℕ → ℕ
 dayFrom m p zero = 0

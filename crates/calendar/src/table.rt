@@ -2,7 +2,7 @@
 ghost use mathlib.Core.Path.{_≡_};
 ghost use lib.Dec.{T};
 ghost use Prim.Native.Nat.{_*_, _<_, _≤_};
-ghost use Rattle.calendar.specs.Calendar.{daysBefore, lastSunday, leapYear, monthDays, steps};
+ghost use Rattle.calendar.specs.Calendar.{daysBefore, lastSunday, leapYear, monthDays, steps, weekday};
 ghost use Rattle.calendar.specs.Hour.{changeHours};
 
 // Days before each month, counted from 1 January 2016.
@@ -1252,6 +1252,14 @@ pub(crate) fn last_sunday(month: u16) -> u8
     let days = month_days(month);
     let last = (days_before(month) + u16::from(days) + 3) % 7;
     days - 1 - ((last + 1) % 7) as u8
+}
+
+// The weekday of the first of `month`, Monday 0.
+pub(crate) fn first_weekday(month: u16) -> u8
+    requires { ⌜ month < 1200 ⌝ }
+    ensures { λ r. ⌜ r ≡ weekday month 0 ⌝ }
+{
+    ((days_before(month) + 4) % 7) as u8
 }
 
 // The hours of the day on which a calendar month changes its clocks.

@@ -1,15 +1,14 @@
 // The months by their dates, and the hours of a month in their order.
 ghost use mathlib.Core.Path.{_≡_};
-ghost use mathlib.Core.Bool.{true};
+ghost use lib.Dec.{leb};
 ghost use Prim.Native.Nat.{ℕ, _+_, _-_, _*_, _/_, _%_, _<_, _≤_};
 ghost use Rattle.std.specs.declared.option.Option.the-variants.{None, Some};
-ghost use Rattle.calendar.specs.Calendar.{monthDays, monthOfYear, yearOf};
+ghost use Rattle.calendar.specs.Calendar.{monthDays, monthOfYear, weekday, yearOf};
 ghost use Rattle.calendar.specs.Even.{evenPlace};
-ghost use Rattle.calendar.specs.Hour.{HourAt, changeHours, hourOf, monthHours};
-ghost use Rattle.calendar.specs.declared.month.days.Hour.{Hour};
+ghost use Rattle.calendar.specs.Hour.{OneHour, changeHours, hourAt, hourOf, monthHours};
 use crate::month::Month;
 use crate::table::change_hours;
-use crate::table::days_before;
+use crate::table::first_weekday;
 use crate::table::last_sunday;
 use crate::table::month_days;
 
@@ -47,11 +46,11 @@ impl Month {
         }
         let days = u16::from(month_days(number));
         let change = change_hours(number % 12);
-        let first = ((days_before(number) + 4) % 7) as u8;
+        let hours = 24 * days + u16::from(change) - 24;
         Some(Month {
             number,
-            hours: 24 * days + u16::from(change) - 24,
-            first,
+            hours,
+            first: first_weekday(number),
             sunday: last_sunday(number),
             change,
         })
@@ -84,23 +83,39 @@ impl Month {
         self.hours
     }
 
+    // Day `day` is a Saturday or a Sunday.
+    fn is_weekend(&self, day: u16) -> bool
+        requires { ⌜ day ≤ 31 ⌝ }
+        ensures { λ r. ⌜ r ≡ leb 5 (weekday (now (self .entry) .number) day) ⌝ }
+    {
+        (u16::from(self.first) + day) % 7 >= 5
+    }
+
+    // The hour at a place inside the month.
+    fn hour_inside(&self, place: u16) -> Hour
+        requires { ⌜ place < monthHours (now self .number) ⌝ }
+        ensures value { λ r. ⌜ r ≡ hourAt (now (self .entry) .number) place ⌝ }
+        ensures one { λ r. ⌜ OneHour (now (self .entry) .number) place r ⌝ }
+        ensures clock { λ r. ⌜ r .clock < 24 ⌝ }
+    {
+        let even = even_place(self.sunday, self.change, place);
+        let day = even / 24;
+        Hour {
+            day: day as u8,
+            clock: (even % 24) as u8,
+            weekend: self.is_weekend(day),
+        }
+    }
+
     // The hour at a place of the month, places counted from 0; none past its end.
     pub fn hour_at(&self, place: u16) -> Option<Hour>
         ensures value { λ r. ⌜ r ≡ hourOf (now (self .entry) .number) place ⌝ }
-        ensures stands { λ r. ⌜ elim r [ Some h ↦ HourAt (now (self .entry) .number) place h | None ↦ monthHours (now (self .entry) .number) ≤ place ] ⌝ }
-        ensures only { λ r. ⌜ ((h : Hour) → HourAt (now (self .entry) .number) place h → r ≡ Some h) ⌝ }
+        ensures one { λ r. ⌜ elim r [ Some h ↦ OneHour (now (self .entry) .number) place h | None ↦ monthHours (now (self .entry) .number) ≤ place ] ⌝ }
         ensures clock { λ r. ⌜ elim r [ Some h ↦ h .clock < 24 | None ↦ Unit {0} ] ⌝ }
     {
         if place >= self.hours {
             return None;
         }
-        let even = even_place(self.sunday, self.change, place);
-        let day = even / 24;
-        let weekend = (u16::from(self.first) + day) % 7 >= 5;
-        Some(Hour {
-            day: day as u8,
-            clock: (even % 24) as u8,
-            weekend,
-        })
+        Some(self.hour_inside(place))
     }
 }

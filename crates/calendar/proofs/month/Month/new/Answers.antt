@@ -1,14 +1,10 @@
 use borrow.Author.Needs.{needs}
 use native.Mathlib.Omega.{arith}
-use Prim.Native.Nat.{ℕ, _+_, _*_, _-_, _%_}
-use mathlib.Core.Path.{_≡_, sym, _∙_, ap}
-use Rattle.calendar.specs.Calendar.{monthDays, daysBefore, weekday}
-use Rattle.calendar.specs.Hour.{changeHours, monthHours}
-use Rattle.calendar.proofs.Hours.{total}
+use Prim.Native.Nat.{ℕ, _+_, _*_, _-_, _≤_}
+use mathlib.Core.Path.{_≡_, sym, _∙_, subst}
+use Rattle.calendar.specs.Hour.{monthHours}
+use Rattle.calendar.proofs.Hours.{total, total-bounds}
 use Rattle.calendar.proofs.month.Month.new.Needs as need
-
-first-day : (m b : ℕ) → b ≡ daysBefore m → (b + 4) % 7 ≡ weekday m 0
-first-day m b e = rw e (omega arith)
 
 pub ghost-result : need.ghost-result
 ghost-result c =
@@ -18,8 +14,14 @@ ghost-result c =
       (
         h,
         (
-          first-day m (c .days-before .result) (c .days-before .ensures .value),
-          (c .last-sunday .ensures .0, (c .last-sunday .ensures .1, (c .change-hours-change .ensures, tt))),
+          search needs,
+          (
+            subst (λ (n : ℕ). (671 ≤ n) × (n ≤ 745)) (sym h) (total-bounds m),
+            (
+              c .first-weekday .ensures,
+              (c .last-sunday .ensures .0, (c .last-sunday .ensures .1, (c .change-hours-change .ensures, tt))),
+            ),
+          ),
         ),
       ),
     )

@@ -1,0 +1,9 @@
+pub mod Every
+pub mod Price
+pub mod Marks
+pub mod Bounds
+pub mod Reading
+pub mod Opening
+pub mod Source
+pub mod Month
+pub mod Whole
