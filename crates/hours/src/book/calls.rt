@@ -11,7 +11,7 @@ ghost use Rattle.std.specs.Vec.{made};
 ghost use Rattle.std.specs.declared.option.Option.the-variants.{Some};
 ghost use Rattle.calendar.specs.Hour.{hourOf};
 ghost use Rattle.hours.specs.Price.{positive};
-ghost use Rattle.hours.specs.Marks.{Zone, markAt};
+ghost use Rattle.hours.specs.Marks.{Zone, allZones, markAt};
 ghost use Rattle.hours.specs.Bounds.{Bounded, Cheap, Zoned};
 ghost use Rattle.hours.specs.Month.{Finished, HasRead, HourRead, MonthRead, ReadsOn};
 ghost use Rattle.hours.specs.Opening.{Opened, allCheap, openRefusal};
@@ -200,6 +200,27 @@ fn next_tally<S: PriceSource>(
 }
 
 impl Book {
+    // A book that has read nothing, for marks and sale prices that were tested.
+    fn with_terms(month: Month, marks: [[u8; 24]; 2], sale: [u32; 3]) -> Book
+        requires month { ⌜ 47 ≤ month .number ⌝ }
+        requires marks { ⌜ allZones (getD marks 0 []) ≡ true ⌝ ∗ ⌜ allZones (getD marks 1 []) ≡ true ⌝ }
+        requires prices { ⌜ allCheap sale ≡ true ⌝ ∗ ⌜ Cheap sale ⌝ }
+        ensures opened { λ r. ⌜ Opened (month .number) marks sale (r .terms) (r .tally) ⌝ }
+        ensures history { λ r. ⌜ HasRead (r .terms) [] (r .tally) ⌝ }
+    {
+        let working = pack(&marks[0]);
+        let weekend = pack(&marks[1]);
+        Book {
+            terms: Terms {
+                month,
+                working,
+                weekend,
+                sale,
+            },
+            tally: Tally::empty(),
+        }
+    }
+
     // Opens a book for `month`, with the marks of a working day and then of a Saturday or Sunday, and three sale prices.
     pub fn open(month: u16, marks: [[u8; 24]; 2], sale: [u32; 3]) -> Result<Book, BookFault>
         ensures opened { λ r. ⌜ elim r [ Ok b ↦ Opened month marks sale (b .terms) (b .tally) | Err f ↦ openRefusal month marks sale ≡ Some f ] ⌝ }
@@ -211,23 +232,13 @@ impl Book {
         let Some(month) = Month::new(month) else {
             return Err(BookFault::MonthOutOfRange);
         };
-        let [working, weekend] = marks;
-        if !all_zones(&working) || !all_zones(&weekend) {
+        if !all_zones(&marks[0]) || !all_zones(&marks[1]) {
             return Err(BookFault::MarkOutOfRange);
         }
         if !all_cheap(&sale) {
             return Err(BookFault::SalePriceTooHigh);
         }
-        let terms = Terms {
-            month,
-            working: pack(&working),
-            weekend: pack(&weekend),
-            sale,
-        };
-        Ok(Book {
-            terms,
-            tally: Tally::empty(),
-        })
+        Ok(Book::with_terms(month, marks, sale))
     }
 
     // Reads the next hour.

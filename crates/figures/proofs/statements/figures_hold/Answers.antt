@@ -1,0 +1,17 @@
+use mathlib.Core.Path.{refl}
+use Rattle.calendar.specs.Sums.{sumTo}
+use Rattle.calendar.specs.Calendar.{daysBefore}
+use Rattle.calendar.specs.Hour.{hoursBefore}
+use Rattle.hours.specs.Month.{sumOver}
+use Rattle.figures.proofs.statements.figures_hold.Needs as need
+
+pub returns : need.returns
+unfolding sumTo daysBefore hoursBefore sumOver
+returns c =
+    record {
+      february-2024-hours = refl;
+      march-2024-hours = refl;
+      october-2024-hours = refl;
+      sellers-table-taken = refl;
+      sellers-table-given = refl;
+    }
