@@ -10,6 +10,7 @@ pub use book::Reading;
 pub use book::Tally;
 pub use book::Terms;
 pub use book::Unfinished;
+pub use marks::all_zones;
 pub use prices::HourPrices;
 pub use prices::HourPricesSource;
 pub use prices::MonthPrice;

@@ -12,7 +12,7 @@ fn is_zone(mark: u8) -> bool
 }
 
 // Every mark of the row names a zone.
-pub(crate) fn all_zones(row: &[u8; 24]) -> bool
+pub fn all_zones(row: &[u8; 24]) -> bool
     ensures { λ r. ⌜ r ≡ allZones (now (row .entry)) ⌝ }
 {
     for mark in row {
