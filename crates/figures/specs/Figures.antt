@@ -2,9 +2,13 @@
 use Prim.Native.Nat.{ℕ}
 use mathlib.Core.Path.{_≡_}
 use mathlib.Core.List.{List, [], _∷_}
+use mathlib.Core.Bool.{true}
 use Rattle.std.specs.declared.option.Option.the-variants.{None}
 use Rattle.calendar.specs.Hour.{monthHours}
 use Rattle.hours.specs.Month.{HourRead, sumOver, takenIn, givenIn}
+use Rattle.portions.specs.Portions.{Portion, fresh}
+use Rattle.portions.specs.Taking.{oldest, proportional}
+use Rattle.ledger.specs.Steps.{ends-by, stays-in}
 
 -- an hour's import and export in Wh, with no price
 abbrev pub hour : ℕ → ℕ → HourRead
@@ -20,6 +24,14 @@ sellersHours =
 abbrev pub oneZone : ℕ → ℕ
 oneZone k = 1
 
+-- the six portions of a seller's invoice, in Wh
+abbrev pub invoice : List ℕ
+invoice = 793000 ∷ 684000 ∷ 557000 ∷ 307000 ∷ 98000 ∷ 22000 ∷ []
+
+-- a portion of energy of month 75
+abbrev pub of-month-75 : Portion (Unit {0})
+of-month-75 = fresh 75 1000 tt
+
 -- the figures
 pub record Figures : Type 0 where
   pub february-2024-hours : monthHours 97 ≡ 696
@@ -27,3 +39,12 @@ pub record Figures : Type 0 where
   pub october-2024-hours : monthHours 105 ≡ 745
   pub sellers-table-taken : sumOver (takenIn oneZone 1) 0 sellersHours ≡ 9000
   pub sellers-table-given : sumOver (givenIn oneZone 1) 0 sellersHours ≡ 4500
+  -- proportional, 250,000 from 200,000 and 300,000
+  pub halves : proportional (200000 ∷ 300000 ∷ []) 250000 ≡ 100000 ∷ 150000 ∷ []
+  -- proportional, 2 from 1, 1 and 1
+  pub thirds : proportional (1 ∷ 1 ∷ 1 ∷ []) 2 ≡ 0 ∷ 1 ∷ 1 ∷ []
+  -- oldest first, all that the invoice's portions hold
+  pub invoice-emptied : oldest invoice 2461000 ≡ invoice
+  -- with a life of 12 months, open in month 87 and ended in month 88
+  pub open-in-87 : stays-in 12 87 of-month-75 ≡ true
+  pub ended-in-88 : ends-by 12 88 of-month-75 ≡ true

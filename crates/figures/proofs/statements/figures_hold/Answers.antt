@@ -14,4 +14,9 @@ returns c =
       october-2024-hours = refl;
       sellers-table-taken = refl;
       sellers-table-given = refl;
+      halves = refl;
+      thirds = refl;
+      invoice-emptied = refl;
+      open-in-87 = refl;
+      ended-in-88 = refl;
     }

@@ -1,0 +1,14 @@
+pub mod Kinds
+pub mod Rules
+pub mod Ledger
+pub mod Calls
+pub mod Steps
+pub mod History
+pub mod Runs
+pub mod Totals
+pub mod Told
+pub mod Ways
+pub mod Best
+pub mod Service
+pub mod Refusals
+pub mod Promises

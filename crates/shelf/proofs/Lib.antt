@@ -1,0 +1,12 @@
+mod Parts
+mod Rise
+mod Passes
+mod Sweep
+mod Places
+mod Lawful
+mod Admitted
+mod Outcome
+mod Opened
+mod Entered
+mod Drawn
+mod Turned
