@@ -133,7 +133,7 @@ fn take_each<K: Kind>(slots: &mut [Slot], filled: usize, takings: &Amounts)
 
 impl<'a> Rows<'a> {
     // Whether a row in use is of the month.
-    pub fn has(&self, month: u16) -> bool
+    pub(crate) fn has(&self, month: u16) -> bool
         requires { ⌜ now self .filled ≤ length (now (now self .slots)) ⌝ }
         ensures { λ r. ⌜ r ≡ has month (map plain (held (now (self .entry)))) ⌝ }
     {
@@ -141,7 +141,7 @@ impl<'a> Rows<'a> {
     }
 
     // Takes the next slot into use.
-    pub fn push(&mut self, row: Slot)
+    pub(crate) fn push(&mut self, row: Slot)
         requires { ⌜ now self .filled < length (now (now self .slots)) ⌝ }
         ensures slots { λ _. ⌜ now (now (self .exit) .slots) ≡ set (now (now (self .entry) .slots)) (now (self .entry) .filled) row ⌝ }
         ensures filled { λ _. ⌜ now (self .exit) .filled ≡ now (self .entry) .filled + 1 ⌝ }
@@ -152,7 +152,7 @@ impl<'a> Rows<'a> {
     }
 
     // Takes the rows that end as the month comes out of use, and sums them up.
-    pub fn end_by<K: Kind>(&mut self, month: u16) -> Ended
+    pub(crate) fn end_by<K: Kind>(&mut self, month: u16) -> Ended
         requires within { ⌜ now self .filled ≤ length (now (now self .slots)) ⌝ }
         requires few { ⌜ now self .filled ≤ 16 ⌝ }
         ensures kept { λ r. ⌜ held (now (self .exit)) ≡ staying K·Kind month (held (now (self .entry))) ⌝ }
@@ -171,7 +171,7 @@ impl<'a> Rows<'a> {
     }
 
     // The amounts left in the rows in use.
-    pub fn lefts(&self) -> Amounts
+    pub(crate) fn lefts(&self) -> Amounts
         requires within { ⌜ now self .filled ≤ length (now (now self .slots)) ⌝ }
         requires few { ⌜ now self .filled ≤ 16 ⌝ }
         ensures { λ r. ⌜ listed r ≡ map (λ s. plain s .left) (held (now (self .entry))) ⌝ }
@@ -180,7 +180,7 @@ impl<'a> Rows<'a> {
     }
 
     // Takes from each row in use.
-    pub fn take_each<K: Kind>(&mut self, takings: &Amounts)
+    pub(crate) fn take_each<K: Kind>(&mut self, takings: &Amounts)
         requires within { ⌜ now self .filled ≤ length (now (now self .slots)) ⌝ }
         requires sized { ⌜ length (listed (now takings)) ≡ now self .filled ⌝ }
         ensures front { λ _. ⌜ map (reads (K·Kind .term)) (held (now (self .exit))) ≡ taking (listed (now (takings .entry))) (map (reads (K·Kind .term)) (held (now (self .entry)))) ⌝ }
