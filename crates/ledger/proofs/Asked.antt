@@ -13,12 +13,12 @@ use Rattle.ledger.specs.Kinds.{Kind}
 use Rattle.ledger.specs.Ledger.{Ledger, has}
 use Rattle.ledger.specs.Calls.{asks, open-refusal, enter-refusal, draw-refusal, turn-refusal}
 
--- an accepted call met every demand
+-- an accepted call met all that it was asked
 pub asked : (b : Bool) (e : StoreFault) (o : Option StoreFault) → asks b e o ≡ None → (b ≡ true) × (o ≡ None)
 asked true e o h = (refl, h)
 asked false e o h = let z : _≡_ {A = ℕ} 0 1 = cc in absurd (omega arith)
 
--- a refused one failed this demand, or a later one
+-- a refused one failed this, or something later
 pub failed : (b : Bool) (e f : StoreFault) (o : Option StoreFault) → asks b e o ≡ Some f → ((f ≡ e) × (b ≡ false)) ⊎ ((b ≡ true) × (o ≡ Some f))
 failed true e f o h = inr (refl, h)
 failed false e f o h = inl (cc, refl)
