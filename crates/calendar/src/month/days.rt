@@ -37,6 +37,23 @@ fn even_place(sunday: u8, change: u8, place: u16) -> u16
 }
 
 impl Month {
+    // The month of a number below 1,200, with all that it keeps.
+    fn of_number(number: u16) -> Month
+        requires { ⌜ number < 1200 ⌝ }
+        ensures { λ r. ⌜ r .number ≡ number ⌝ }
+    {
+        let days = u16::from(month_days(number));
+        let change = change_hours(number % 12);
+        let hours = 24 * days + u16::from(change) - 24;
+        Month {
+            number,
+            hours,
+            first: first_weekday(number),
+            sunday: last_sunday(number),
+            change,
+        }
+    }
+
     // The month of a number, or none past December 2115.
     pub fn new(number: u16) -> Option<Month>
         ensures { λ r. ⌜ elim r [ Some m ↦ (m .number ≡ number) × (number < 1200) | None ↦ 1200 ≤ number ] ⌝ }
@@ -44,16 +61,7 @@ impl Month {
         if number >= 1200 {
             return None;
         }
-        let days = u16::from(month_days(number));
-        let change = change_hours(number % 12);
-        let hours = 24 * days + u16::from(change) - 24;
-        Some(Month {
-            number,
-            hours,
-            first: first_weekday(number),
-            sunday: last_sunday(number),
-            change,
-        })
+        Some(Month::of_number(number))
     }
 
     // The number of the month, from 0 for January 2016 to 1,199 for December 2115.
