@@ -1,6 +1,7 @@
 // Refusals: one enum for each layer of the engine, with a number for each case.
 ghost use mathlib.Core.Path.{_≡_};
-ghost use Rattle.faults.specs.Numbers.{book-layer, book-number, store-layer, store-number};
+ghost use Rattle.faults.specs.Numbers.{account-layer, account-number, book-layer, book-number, store-layer, store-number};
+ghost use Rattle.faults.specs.declared.AccountFault.the-variants.{InStore};
 
 // The layers of the engine. A refusal is told with the layer that gave it.
 #[derive(Clone, Copy, PartialEq, Eq, Debug)]
@@ -82,5 +83,64 @@ impl BookFault {
         ensures { λ r. ⌜ r ≡ book-layer self ⌝ }
     {
         Layer::Book
+    }
+}
+
+// What an account refuses, and what a store inside it refuses, passed up whole.
+#[derive(Clone, Copy, PartialEq, Eq, Debug)]
+pub enum AccountFault {
+    InStore(StoreFault),
+    NotOpen,
+    MonthOutOfRange,
+    PowerOutOfRange,
+    PeriodUnknown,
+    PercentageTooHigh,
+    OtherMonth,
+    AlreadyEntered,
+    NothingEntered,
+    PeriodGoesOn,
+    NotSettled,
+    AlreadySettled,
+    TooFewLines,
+}
+
+impl AccountFault {
+    // The number under which the refusal is printed.
+    pub fn number(self) -> u8
+        ensures { λ r. ⌜ r ≡ account-number self ⌝ }
+    {
+        match self {
+            AccountFault::InStore(fault) => fault.number(),
+            AccountFault::NotOpen => 1,
+            AccountFault::MonthOutOfRange => 2,
+            AccountFault::PowerOutOfRange => 21,
+            AccountFault::PeriodUnknown => 22,
+            AccountFault::PercentageTooHigh => 23,
+            AccountFault::OtherMonth => 24,
+            AccountFault::AlreadyEntered => 25,
+            AccountFault::NothingEntered => 26,
+            AccountFault::PeriodGoesOn => 27,
+            AccountFault::NotSettled => 28,
+            AccountFault::AlreadySettled => 29,
+            AccountFault::TooFewLines => 30,
+        }
+    }
+
+    // The layer that gave the refusal: the store's own where it comes from there.
+    pub fn layer(self) -> Layer
+        ensures { λ r. ⌜ r ≡ account-layer self ⌝ }
+    {
+        match self {
+            AccountFault::InStore(fault) => fault.layer(),
+            _ => Layer::Account,
+        }
+    }
+}
+
+pub impl From<StoreFault> for AccountFault as AccountFaultFromStore {
+    ghost converts = { λ fault r. r ≡ InStore fault };
+
+    fn from(fault: StoreFault) -> AccountFault {
+        AccountFault::InStore(fault)
     }
 }

@@ -9,6 +9,7 @@ use Rattle.hours.specs.Month.{HourRead, sumOver, takenIn, givenIn}
 use Rattle.portions.specs.Portions.{Portion, fresh}
 use Rattle.portions.specs.Taking.{oldest, proportional}
 use Rattle.ledger.specs.Steps.{ends-by, stays-in}
+use Rattle.settlement.specs.Figures as settlement
 
 -- an hour's import and export in Wh, with no price
 abbrev pub hour : ℕ → ℕ → HourRead
@@ -32,7 +33,7 @@ invoice = 793000 ∷ 684000 ∷ 557000 ∷ 307000 ∷ 98000 ∷ 22000 ∷ []
 abbrev pub of-month-75 : Portion (Unit {0})
 of-month-75 = fresh 75 1000 tt
 
--- the figures
+-- the figures; those of settlements stand with the accounts' definitions
 pub record Figures : Type 0 where
   pub february-2024-hours : monthHours 97 ≡ 696
   pub march-2024-hours : monthHours 98 ≡ 743
@@ -48,3 +49,4 @@ pub record Figures : Type 0 where
   -- with a life of 12 months, open in month 87 and ended in month 88
   pub open-in-87 : stays-in 12 87 of-month-75 ≡ true
   pub ended-in-88 : ends-by 12 88 of-month-75 ≡ true
+  pub settlements : settlement.Figures

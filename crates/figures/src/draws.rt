@@ -16,7 +16,7 @@ use std::error::AnyError;
 use store::Store;
 
 // A slot that holds nothing yet.
-const UNUSED: Slot = Slot {
+pub(crate) const UNUSED: Slot = Slot {
     month: 0,
     entered: 0,
     left: 0,

@@ -3,6 +3,7 @@ use std::error::AnyError;
 
 mod draws;
 mod months;
+mod settlements;
 mod statements;
 
 // A figure beside what it should be.
@@ -14,5 +15,6 @@ fn show(rt: &LibcRuntime, name: &str, got: &str, expected: &str) -> Result<(), A
 fn main(rt: LibcRuntime) -> Result<(), AnyError> {
     statements::figures_hold();
     months::show_months(&rt)?;
-    draws::show_draws(&rt)
+    draws::show_draws(&rt)?;
+    settlements::show_settlements(&rt)
 }

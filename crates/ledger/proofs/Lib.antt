@@ -1,10 +1,10 @@
 pub mod Asked
-mod Lists
-mod Store
+pub mod Lists
+pub mod Store
 mod Sums
 mod Best
 mod Own
 mod Refusals
 mod Runs
-mod Promise
+pub mod Promise
 pub mod Keeps

@@ -128,6 +128,6 @@ module _ {K T : Type 0} (k : Ghosts K T) (s : Shelf K T) (sound : Parts s) (rule
           (record {
             answer = ap Ok (summed ∙ ap sum gave-takings) ∙ ap (λ x. answers x (sum (takings rule w l))) (sym none);
             state = drawn-state (draw-met w l none .is-open) ∙ ap (λ x. becomes x new l) (sym none);
-            slots = behind k s (with-taken rows′ (more-used (s .totals) n)) (sound .placed) (drawn-sound .placed) (omega (arith, filled)) long rest lender;
+            slots = behind s (with-taken rows′ (more-used (s .totals) n)) (omega (arith, filled)) long rest lender;
             sound = whole drawn-sound;
           })

@@ -26,10 +26,10 @@ use Rattle.shelf.specs.Held.{held, lent, room, in-use}
 use Rattle.shelf.specs.Counting.{more-entered}
 use Rattle.shelf.specs.Reading.{ledger-of}
 use Rattle.shelf.specs.Sound.{rises, due, kept}
-use Rattle.shelf.specs.Slots.{Accounted, open-in}
+use Rattle.shelf.specs.Slots.{Accounted}
 use Rattle.shelf.proofs.Rise.{rises-length, rises-free, rises-push, has-push, has-plain, totals-small}
 use Rattle.shelf.proofs.Parts.{Parts, whole}
-use Rattle.shelf.proofs.Outcome.{Outcome, never-false, open-in-use}
+use Rattle.shelf.proofs.Outcome.{Outcome, never-false}
 
 -- where a month has no portion there is room for its row
 room-left : (span m f : ℕ) (ss : List Slot) → f ≤ length ss → 1 ≤ span → span ≤ length ss →
@@ -96,10 +96,9 @@ module _ {K T : Type 0} (k : Ghosts K T) (s : Shelf K T) (sound : Parts s) (a : 
           dated = sound .dated;
         }
 
-    entered-slots : Accounted k true s (with-row rows′ (more-entered (s .totals) a))
+    entered-slots : Accounted true s (with-row rows′ (more-entered (s .totals) a))
     entered-slots =
-        let after = with-row rows′ (more-entered (s .totals) a) in
-        let n : max (open-in k s) (open-in k after) ≡ in-use s + 1 = omega (arith, more, open-in-use k s (sound .placed), open-in-use k after (entered-sound .placed)) in
+        let n : max (in-use s) (rows′ .filled) ≡ in-use s + 1 = omega (arith, more) in
         record {
           others = ap (λ x. drop x (now (rows′ .slots))) n ∙ ap (drop (in-use s + 1)) written ∙ drop-set-lt (in-use s + 1) (lent s) (in-use s) row (omega arith) ∙ sym (ap (λ x. drop x (lent s)) n);
           refused = λ h. never-false h;

@@ -1,9 +1,9 @@
-mod Parts
-mod Rise
+pub mod Parts
+pub mod Rise
 mod Passes
 mod Sweep
 mod Places
-mod Lawful
+pub mod Lawful
 mod Admitted
 mod Outcome
 mod Opened

@@ -12,22 +12,20 @@ use Rattle.std.specs.declared.result.Result.the-variants.{Ok, Err}
 use Rattle.std.specs.Results.{ErrBy, isOk}
 use Rattle.faults.specs.declared.StoreFault.{StoreFault}
 use Rattle.portions.specs.declared.Kind.{Ghosts}
-use Rattle.portions.specs.Slots.{reads}
 use Rattle.ledger.specs.Ledger.{Ledger}
 use Rattle.ledger.specs.Calls.{answers, becomes}
 use Rattle.shelf.specs.declared.Shelf.{Shelf}
 use Rattle.shelf.specs.Held.{lent, room, in-use}
 use Rattle.shelf.specs.Reading.{ledger-of}
-use Rattle.shelf.specs.Slots.{Accounted, open-in}
+use Rattle.shelf.specs.Slots.{Accounted}
 use Rattle.shelf.specs.Sound.{Sound}
-use Rattle.shelf.proofs.Places.{count-front}
 
 -- The answer r of a call that is refused by o, if by any, and else answered with v and makes `new` of the ledger;
 -- s is the shelf before it and s′ after it.
 pub record Outcome {K T V : Type 0} (k : Ghosts K T) (s s′ : Shelf K T) (o : Option StoreFault) (new : Ledger T) (v : V) (r : Result V StoreFault) : Type 0 where
   pub answer : r ≡ answers o v
   pub state : ledger-of k s′ ≡ becomes o new (ledger-of k s)
-  pub slots : Accounted k (isOk r) s s′
+  pub slots : Accounted (isOk r) s s′
   pub sound : Sound s′
 
 -- an accepted call is no refused one
@@ -65,15 +63,11 @@ refused k s sound o new fault w e v r h =
       sound = sound;
     }
 
--- the open portions are those in the slots in use
-pub open-in-use : {K T : Type 0} (k : Ghosts K T) (s : Shelf K T) → in-use s ≤ room s → open-in k s ≡ in-use s
-open-in-use k s placed = count-front (reads (k .term)) (in-use s) (lent s) placed
-
 -- a call that takes no further slot into use, and leaves those behind the ones in use as they are
-pub behind : {K T : Type 0} (k : Ghosts K T) (s s′ : Shelf K T) → in-use s ≤ room s → in-use s′ ≤ room s′ → in-use s′ ≤ in-use s → room s′ ≡ room s →
-    drop (in-use s) (lent s′) ≡ drop (in-use s) (lent s) → name (s′ .rows .slots) ≡ name (s .rows .slots) → Accounted k true s s′
-behind k s s′ placed placed′ fewer long rest lender =
-    let m : max (open-in k s) (open-in k s′) ≡ in-use s = omega (arith, fewer, open-in-use k s placed, open-in-use k s′ placed′) in
+pub behind : {K T : Type 0} (s s′ : Shelf K T) → in-use s′ ≤ in-use s → room s′ ≡ room s → drop (in-use s) (lent s′) ≡ drop (in-use s) (lent s) →
+    name (s′ .rows .slots) ≡ name (s .rows .slots) → Accounted true s s′
+behind s s′ fewer long rest lender =
+    let m : max (in-use s) (in-use s′) ≡ in-use s = omega (arith, fewer) in
     record {
       others = ap (λ x. drop x (lent s′)) m ∙ rest ∙ sym (ap (λ x. drop x (lent s)) m);
       refused = λ h. never-false h;

@@ -147,6 +147,6 @@ module _ {K T : Type 0} (k : Ghosts K T) (s : Shelf K T) (sound : Parts s) (rows
           (record {
             answer = ap (λ z. Ok (z, x)) refunds-are ∙ ap (λ z. Ok (refunds (kind-of k) l, z)) losses-are ∙ ap (λ z. answers z both) (sym none);
             state = turned-state (met .is-open) ∙ ap (λ z. becomes z (turning (kind-of k) l) l) (sym none);
-            slots = behind k s (with-ended (more-ended (s .totals) r x)) (sound .placed) (turned-sound met .placed) fewer long rest lender;
+            slots = behind s (with-ended (more-ended (s .totals) r x)) fewer long rest lender;
             sound = whole (turned-sound met);
           })

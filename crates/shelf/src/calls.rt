@@ -59,7 +59,7 @@ impl<'a, K: Kind> Shelf<'a, K> {
         requires { ⌜ Sound (now self) ⌝ }
         ensures answer { λ r. ⌜ r ≡ enter-answer (kind-of K·Kind) amount terms (ledger-of K·Kind (now (self .entry))) ⌝ }
         ensures state { λ r. ⌜ ledger-of K·Kind (now (self .exit)) ≡ enter-after (kind-of K·Kind) amount terms (ledger-of K·Kind (now (self .entry))) ⌝ }
-        ensures slots { λ r. ⌜ Accounted K·Kind (isOk r) (now (self .entry)) (now (self .exit)) ⌝ }
+        ensures slots { λ r. ⌜ Accounted (isOk r) (now (self .entry)) (now (self .exit)) ⌝ }
         ensures promised { λ r. ⌜ Keeps (kind-of K·Kind) (ledger-of K·Kind (now (self .entry))) (enter-event amount terms r) (ledger-of K·Kind (now (self .exit))) ⌝ }
         ensures sound { λ r. ⌜ Sound (now (self .exit)) ⌝ }
     {
@@ -74,7 +74,7 @@ impl<'a, K: Kind> Shelf<'a, K> {
         requires { ⌜ Sound (now self) ⌝ }
         ensures answer { λ r. ⌜ r ≡ draw-answer (kind-of K·Kind) (R·Rule .gives (now (rule .entry))) wanted (ledger-of K·Kind (now (self .entry))) ⌝ }
         ensures state { λ r. ⌜ ledger-of K·Kind (now (self .exit)) ≡ draw-after (kind-of K·Kind) (R·Rule .gives (now (rule .entry))) wanted (ledger-of K·Kind (now (self .entry))) ⌝ }
-        ensures slots { λ r. ⌜ Accounted K·Kind (isOk r) (now (self .entry)) (now (self .exit)) ⌝ }
+        ensures slots { λ r. ⌜ Accounted (isOk r) (now (self .entry)) (now (self .exit)) ⌝ }
         ensures promised { λ r. ⌜ Keeps (kind-of K·Kind) (ledger-of K·Kind (now (self .entry))) (draw-event (R·Rule .gives (now (rule .entry))) wanted r) (ledger-of K·Kind (now (self .exit))) ⌝ }
         ensures sound { λ r. ⌜ Sound (now (self .exit)) ⌝ }
     {
@@ -92,7 +92,7 @@ impl<'a, K: Kind> Shelf<'a, K> {
         requires { ⌜ Sound (now self) ⌝ }
         ensures answer { λ r. ⌜ r ≡ turn-answer (kind-of K·Kind) (ledger-of K·Kind (now (self .entry))) ⌝ }
         ensures state { λ r. ⌜ ledger-of K·Kind (now (self .exit)) ≡ turn-after (kind-of K·Kind) (ledger-of K·Kind (now (self .entry))) ⌝ }
-        ensures slots { λ r. ⌜ Accounted K·Kind (isOk r) (now (self .entry)) (now (self .exit)) ⌝ }
+        ensures slots { λ r. ⌜ Accounted (isOk r) (now (self .entry)) (now (self .exit)) ⌝ }
         ensures promised { λ r. ⌜ Keeps (kind-of K·Kind) (ledger-of K·Kind (now (self .entry))) (turn-event r) (ledger-of K·Kind (now (self .exit))) ⌝ }
         ensures sound { λ r. ⌜ Sound (now (self .exit)) ⌝ }
     {

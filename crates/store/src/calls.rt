@@ -45,7 +45,7 @@ impl<'a, K: Kind> Store<'a, K> {
     pub fn enter(&mut self, amount: u32, terms: K::Terms) -> Result<(), StoreFault>
         ensures answer { λ r. ⌜ r ≡ enter-answer (kind-of K·Kind) amount terms (ledger-of K·Kind (now (self .entry) .shelf)) ⌝ }
         ensures state { λ r. ⌜ ledger-of K·Kind (now (self .exit) .shelf) ≡ enter-after (kind-of K·Kind) amount terms (ledger-of K·Kind (now (self .entry) .shelf)) ⌝ }
-        ensures slots { λ r. ⌜ Accounted K·Kind (isOk r) (now (self .entry) .shelf) (now (self .exit) .shelf) ⌝ }
+        ensures slots { λ r. ⌜ Accounted (isOk r) (now (self .entry) .shelf) (now (self .exit) .shelf) ⌝ }
         ensures promised { λ r. ⌜ Keeps (kind-of K·Kind) (ledger-of K·Kind (now (self .entry) .shelf)) (enter-event amount terms r) (ledger-of K·Kind (now (self .exit) .shelf)) ⌝ }
     {
         self.shelf.enter(amount, terms)
@@ -55,7 +55,7 @@ impl<'a, K: Kind> Store<'a, K> {
     pub fn draw<R: Rule>(&mut self, rule: &R, wanted: u32) -> Result<u64, StoreFault>
         ensures answer { λ r. ⌜ r ≡ draw-answer (kind-of K·Kind) (R·Rule .gives (now (rule .entry))) wanted (ledger-of K·Kind (now (self .entry) .shelf)) ⌝ }
         ensures state { λ r. ⌜ ledger-of K·Kind (now (self .exit) .shelf) ≡ draw-after (kind-of K·Kind) (R·Rule .gives (now (rule .entry))) wanted (ledger-of K·Kind (now (self .entry) .shelf)) ⌝ }
-        ensures slots { λ r. ⌜ Accounted K·Kind (isOk r) (now (self .entry) .shelf) (now (self .exit) .shelf) ⌝ }
+        ensures slots { λ r. ⌜ Accounted (isOk r) (now (self .entry) .shelf) (now (self .exit) .shelf) ⌝ }
         ensures promised { λ r. ⌜ Keeps (kind-of K·Kind) (ledger-of K·Kind (now (self .entry) .shelf)) (draw-event (R·Rule .gives (now (rule .entry))) wanted r) (ledger-of K·Kind (now (self .exit) .shelf)) ⌝ }
     {
         self.shelf.draw(rule, wanted)
@@ -65,7 +65,7 @@ impl<'a, K: Kind> Store<'a, K> {
     pub fn turn(&mut self) -> Result<(u64, u64), StoreFault>
         ensures answer { λ r. ⌜ r ≡ turn-answer (kind-of K·Kind) (ledger-of K·Kind (now (self .entry) .shelf)) ⌝ }
         ensures state { λ r. ⌜ ledger-of K·Kind (now (self .exit) .shelf) ≡ turn-after (kind-of K·Kind) (ledger-of K·Kind (now (self .entry) .shelf)) ⌝ }
-        ensures slots { λ r. ⌜ Accounted K·Kind (isOk r) (now (self .entry) .shelf) (now (self .exit) .shelf) ⌝ }
+        ensures slots { λ r. ⌜ Accounted (isOk r) (now (self .entry) .shelf) (now (self .exit) .shelf) ⌝ }
         ensures promised { λ r. ⌜ Keeps (kind-of K·Kind) (ledger-of K·Kind (now (self .entry) .shelf)) (turn-event r) (ledger-of K·Kind (now (self .exit) .shelf)) ⌝ }
     {
         self.shelf.turn()

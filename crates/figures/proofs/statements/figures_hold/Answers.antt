@@ -19,4 +19,5 @@ returns c =
       invoice-emptied = refl;
       open-in-87 = refl;
       ended-in-88 = refl;
+      settlements = record { left-in-one = refl; left-in-two = refl; due-of-a-year = refl; wanted-for-1000 = refl; covered-by-1429 = refl; used-for-1 = refl; covered-of-1 = refl; due-of-1 = refl; deposit-for-300-zloty = refl; cap-at-20-percent = refl };
     }

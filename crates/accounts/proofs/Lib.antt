@@ -1,0 +1,10 @@
+mod Facts
+mod Allowed
+mod Written
+mod Outcomes
+mod Bills
+mod Paid
+mod DrawnSlots
+mod Pending
+mod Meters
+mod Covered

@@ -1,0 +1,5 @@
+pub mod Means
+pub mod Bounds
+pub mod Slots
+pub mod Billed
+pub mod Metered

@@ -1,0 +1,29 @@
+// The deposit, its cap and the bill of a month's sums, in whole grosz.
+ghost use mathlib.Core.Path.{_≡_};
+ghost use Prim.Native.Nat.{_≤_};
+ghost use Rattle.settlement.specs.Billing.{deposit-of, cap-of, bill-of};
+use hours::MonthSums;
+
+// The deposit: the value given by the factor 1.23, rounded.
+pub(crate) fn deposit_of(sums: &MonthSums) -> u32
+    ensures value { λ r. ⌜ r ≡ deposit-of (now (sums .entry)) ⌝ }
+    ensures small { λ r. ⌜ r ≤ 100000000 ⌝ }
+{
+    ((sums.totals().value * 123 + 50_000_000) / 100_000_000) as u32
+}
+
+// The cap of its refund, from the value itself, rounded down.
+pub(crate) fn cap_of(sums: &MonthSums, percentage: u8) -> u32
+    requires { ⌜ percentage ≤ 100 ⌝ }
+    ensures { λ r. ⌜ r ≡ cap-of percentage (now (sums .entry)) ⌝ }
+{
+    (sums.totals().value * percentage as u64 / 100_000_000) as u32
+}
+
+// The bill: the charge, rounded.
+pub(crate) fn bill_of(sums: &MonthSums) -> u32
+    ensures value { λ r. ⌜ r ≡ bill-of (now (sums .entry)) ⌝ }
+    ensures small { λ r. ⌜ r ≤ 74500000 ⌝ }
+{
+    ((sums.totals().charge + 500_000) / 1_000_000) as u32
+}

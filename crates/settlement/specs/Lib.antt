@@ -1,0 +1,17 @@
+pub mod Zones
+pub mod Kinds
+pub mod Table
+pub mod Bounds
+pub mod Lines
+pub mod Standing
+pub mod Answers
+pub mod Accounts
+pub mod Steps
+pub mod History
+pub mod Accepted
+pub mod Runs
+pub mod Refusals
+pub mod Promises
+pub mod Metering
+pub mod Billing
+pub mod Figures
