@@ -1,8 +1,9 @@
-// The deposit, its cap and the bill of a month's sums, in whole grosz.
+// The deposit, its cap and the bill of a month's sums, in whole grosz, and what the settlement of a bill answers.
 ghost use mathlib.Core.Path.{_≡_};
-ghost use Prim.Native.Nat.{_≤_};
+ghost use Prim.Native.Nat.{_-_, _≤_};
 ghost use Rattle.settlement.specs.Billing.{deposit-of, cap-of, bill-of};
 use hours::MonthSums;
+use settlement::Payment;
 
 // The deposit: the value given by the factor 1.23, rounded.
 pub(crate) fn deposit_of(sums: &MonthSums) -> u32
@@ -26,4 +27,16 @@ pub(crate) fn bill_of(sums: &MonthSums) -> u32
     ensures small { λ r. ⌜ r ≤ 74500000 ⌝ }
 {
     ((sums.totals().charge + 500_000) / 1_000_000) as u32
+}
+
+// What a settlement answers that used so much for a bill: the rest is due.
+pub(crate) fn paid(bill: u32, used: u32, lines: usize) -> Payment
+    requires { ⌜ used ≤ bill ⌝ }
+    ensures { λ r. ⌜ r ≡ record { used = used; due = bill - used; lines = lines } ⌝ }
+{
+    Payment {
+        used,
+        due: bill - used,
+        lines,
+    }
 }

@@ -15,6 +15,7 @@ use crate::billing::Billing;
 use crate::billing::amounts::bill_of;
 use crate::billing::amounts::cap_of;
 use crate::billing::amounts::deposit_of;
+use crate::billing::amounts::paid;
 use crate::inside::draw_store;
 use crate::inside::enough_slots;
 use crate::inside::enter_store;
@@ -115,14 +116,10 @@ impl<'a> Billing<'a> {
         let before = self.store.lefts();
         let used = draw_store(&mut self.store, rule, self.bill);
         let count = write_lines(&self.store, 0, &before, lines, 0);
-        let due = self.bill - used;
+        let payment = paid(self.bill, used, count);
         self.bill = 0;
         self.state = next;
-        Ok(Payment {
-            used,
-            due,
-            lines: count,
-        })
+        Ok(payment)
     }
 
     // Turns the store to the next month: the refunds and losses, summed.

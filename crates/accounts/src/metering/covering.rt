@@ -19,6 +19,27 @@ use settlement::Zone;
 use settlement::Zones;
 use shelf::Shelf;
 
+// Wanted of a store to cover a rest: 10 × rest / c, rounded up.
+fn wanted_for(c: u32, rest: u32) -> u64
+    requires { ⌜ 1 ≤ c ⌝ }
+    ensures { λ r. ⌜ r ≡ wanted c rest ⌝ }
+{
+    (10 * rest as u64 + (c - 1) as u64) / c as u64
+}
+
+// What is not covered of a rest for which so much was used: used × c / 10 is covered, rounded down.
+fn uncovered(c: u32, rest: u32, used: u32) -> u32
+    requires { ⌜ c ≤ 8 ⌝ }
+    ensures { λ r. ⌜ r ≡ rest - covered c rest used ⌝ }
+{
+    let served = used as u64 * c as u64 / 10;
+    if served < (rest as u64) {
+        rest - served as u32
+    } else {
+        0
+    }
+}
+
 // Covers a rest from a store, and returns what is not covered.
 fn cover_rest<R: Rule>(store: &mut Shelf<Energy>, rule: &R, c: u32, rest: u32) -> u32
     requires sound { ⌜ Sound (now store) ⌝ }
@@ -32,14 +53,9 @@ fn cover_rest<R: Rule>(store: &mut Shelf<Energy>, rule: &R, c: u32, rest: u32) -
     ensures sound { λ _. ⌜ Sound (now (store .exit)) ⌝ }
     ensures ready { λ r. ⌜ energies (now (store .exit)) .opened ≡ true ⌝ }
 {
-    let want = (10 * rest as u64 + (c - 1) as u64) / c as u64;
+    let want = wanted_for(c, rest);
     let used = draw_store(store, rule, want as u32);
-    let served = used as u64 * c as u64 / 10;
-    if served < (rest as u64) {
-        rest - served as u32
-    } else {
-        0
-    }
+    uncovered(c, rest, used)
 }
 
 // What a zone has.
@@ -111,8 +127,8 @@ fn cover_from<R: Rule>(
     ensures ready { λ _. ⌜ Ready (now (stores .exit)) ⌝ }
 {
     let rest = at(rests, zone);
-    let uncovered = rest_from(stores, rule, c, from, rest);
-    set(rests, zone, uncovered);
+    let left = rest_from(stores, rule, c, from, rest);
+    set(rests, zone, left);
 }
 
 // Covers each zone from its own store, and then each from the stores of the others.

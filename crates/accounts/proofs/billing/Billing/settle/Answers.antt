@@ -1,4 +1,4 @@
-use mathlib.Core.Path.{ap}
+use mathlib.Core.Path.{ap, _∙_}
 use Prim.Native.Nat.{ℕ}
 use native.Mathlib.Omega.{arith}
 use lib.ListN.{length}
@@ -48,6 +48,6 @@ returns g c =
     let ls = listed (c .lefts-before .result) in
     let count = paid-count rule b l (e .state) ls (c .lefts-before .ensures) _ (c .write-lines-count .ensures .count) in
     let wrote = paid-lines rule b l (e .state) ls (c .lefts-before .ensures) d _ (c .write-lines-count .ensures .lines) in
-    let out = settle-accepted billing billing-keeps b rule law d _ (c .standing .ensures) _ (c .in-Continue-next .ensures tt) _ (payment-is rule b _ _ (e .used) count)
+    let out = settle-accepted billing billing-keeps b rule law d _ (c .standing .ensures) _ (c .in-Continue-next .ensures tt) _ (c .paid-payment .ensures ∙ payment-is rule b _ _ (e .used) count)
     _ (λ met. paid-bill b _ l (met .is-open) rule (met .settled) (e .state)) _ wrote in
     record { answer = out .answer; state = out .state; lines = out .lines; slots = e .slots .accounted; promised = out .promised }
