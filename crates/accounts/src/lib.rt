@@ -1,4 +1,5 @@
 //! Metering and billing accounts, over slots that the caller provides.
+#![tactic(auto)]
 
 mod billing;
 mod inside;

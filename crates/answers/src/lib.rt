@@ -1,4 +1,5 @@
 //! What the program answers to a record, and the text that it prints for it.
+#![tactic(auto)]
 
 mod kinds;
 mod printing;

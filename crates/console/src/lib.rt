@@ -1,4 +1,5 @@
 //! The program's way in and out: a record file from standard input, its report to standard output.
+#![tactic(auto)]
 
 use report::report;
 use std::io::{Read, Write};

@@ -1,4 +1,5 @@
 //! The program's desk: an account, a book with its prices, and a step for each record of a file.
+#![tactic(auto)]
 
 mod accounts;
 mod book;

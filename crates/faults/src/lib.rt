@@ -1,4 +1,6 @@
 // Refusals: one enum for each layer of the engine, with a number for each case.
+#![tactic(auto)]
+
 ghost use Rattle.std.specs.Prelude.{◌≡◌};
 ghost use Rattle.faults.specs.Numbers.{account_layer, account_number, book_layer, book_number, program_layer, program_number, store_layer, store_number};
 ghost use Rattle.faults.specs.declared.AccountFault.TheVariants.{InStore};

@@ -1,4 +1,6 @@
 // From meter readings to the sums of a month: price sources, the month book and the sums that it is finished into.
+#![tactic(auto)]
+
 mod book;
 mod marks;
 mod prices;

@@ -1,5 +1,6 @@
 //! Stores by what they mean: ledgers, histories of calls, and what is promised after every history.
 //! The functions here only carry the laws: each one's contract is a law, shown once for every kind.
+#![tactic(auto)]
 
 ghost use Rattle.std.specs.Prelude.{ℕ};
 ghost use Rattle.ledger.specs.Kinds.{Kind, LawfulKind};

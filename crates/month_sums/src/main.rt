@@ -1,5 +1,7 @@
 // The sums of one month from a text on standard input: the month with its prices, the zone marks of the tariff, and
 // a meter reading for each hour.
+#![tactic(auto)]
+
 use crate::complaint::Complaint;
 use crate::input::parse;
 use crate::sums::sums_of;

@@ -1,4 +1,5 @@
 //! Portions of energy or money: their kinds, the slots they are kept in, and the rules by which they are drawn on.
+#![tactic(auto)]
 
 ghost use Rattle.std.specs.Prelude.{◌≡◌, ℕ, ◌-◌, ◌≤◌, min};
 ghost use Rattle.portions.specs.declared.Slot.{Slot};

@@ -14,6 +14,7 @@
 //! | 7 | finish the book and enter it | | 0 |
 //! | 8 | settle | | 0 |
 //! | 9 | turn to the next month | | 0 |
+#![tactic(auto)]
 
 mod bare;
 mod decoding;

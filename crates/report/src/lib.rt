@@ -1,4 +1,5 @@
 //! The report of a record file: the text of a whole run.
+#![tactic(auto)]
 
 mod run;
 

@@ -1,4 +1,5 @@
 //! Accounts by what they mean: month states, settlements, histories of calls, and what is promised after every history.
+#![tactic(auto)]
 
 ghost use Rattle.settlement.specs.Promises.{KeepsPromise};
 ghost use Rattle.settlement.specs.Runs.{CallsHaveHistories, HistoriesDecide};

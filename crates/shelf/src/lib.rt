@@ -1,5 +1,6 @@
 //! Portions of one kind in lent slots. Internal: a shelf has no ghost fields, so its calls ask that it is sound, and each
 //! caller shows it.
+#![tactic(auto)]
 
 use portions::Kind;
 use rows::Rows;

@@ -1,4 +1,5 @@
 //! A store of portions of one kind, in slots that the caller provides.
+#![tactic(auto)]
 
 ghost use Rattle.shelf.specs.Sound.{Sound};
 

@@ -11,8 +11,8 @@ pub returns : goal.returns
 returns c =
     let s = c.args.self.now in
     let p = c.args.place in
-    let e = c.even-place-even.result in
+    let e = c.even_place-even.result in
     let a =
-    standing s.number s.sunday s.change p e s.last s.inside s.changes c.requires c.even-place-even.ensures.value
-    c.is-weekend.result c.is-weekend.ensures in
+    standing s.number s.sunday s.change p e s.last s.inside s.changes c.requires c.even_place-even.ensures.value
+    c.is_weekend.result c.is_weekend.ensures in
     record { value = hour_is s.number p _ a; one = one_hour s.number p _ a; clock = omega arith }
