@@ -5,21 +5,21 @@ use Rattle.portions.specs.Taking.{shares}
 use Rattle.portions.specs.Takes.{share_more, share_mono, sharing_room, sharing_more, sharing_all, listed_few}
 use Rattle.portions.proofs.proportional.take_shares.Goals as goal
 
-pub overflow-add-after : goal.overflow-add-after
-overflow-add-after c =
+pub overflow_add-after : goal.overflow_add-after
+overflow_add-after c =
     let lt : c.loop-i.i < length (listed c.args.left.now) = omega (arith, c.loop-i-test.true, c.len-i-end.ensures) in
-    omega (arith, sharing_room c.loop-i.invariant lt, c.at.ensures, c.total-total.ensures, c.total-total.type-inv)
+    omega (arith, sharing_room c.loop-i.invariant lt, c.at.ensures, c.total-total.ensures, c.total-total.type_inv)
 
-pub overflow-sub-taking : goal.overflow-sub-taking
-overflow-sub-taking c =
+pub overflow_sub-taking : goal.overflow_sub-taking
+overflow_sub-taking c =
     let p : 0 < c.max-t.result = omega (arith, c.max-t.ensures) in
     omega (arith, share_mono c.min-w.result c.max-t.result c.loop-i.before c.at.result p, c.share.ensures, c.share-in-loop-i.ensures)
 
-pub overflow-cast-taking : goal.overflow-cast-taking
-overflow-cast-taking c =
+pub overflow_cast-taking : goal.overflow_cast-taking
+overflow_cast-taking c =
     let p : 0 < c.max-t.result = omega (arith, c.max-t.ensures) in
     let h : c.min-w.result ≤ c.max-t.result = omega (arith, c.min-w.ensures, c.max-t.ensures) in
-    omega (arith, share_more c.min-w.result c.max-t.result c.loop-i.before c.at.result h p, c.share.ensures, c.share-in-loop-i.ensures, c.at.type-inv)
+    omega (arith, share_more c.min-w.result c.max-t.result c.loop-i.before c.at.result h p, c.share.ensures, c.share-in-loop-i.ensures, c.at.type_inv)
 
 pub loop-i-preserved : goal.loop-i-preserved
 loop-i-preserved c =

@@ -9,7 +9,7 @@ returns c =
     let sale : length c.args.sale.now ≡ 12 = search rules in
     let all : length c.write_at-4.new.bytes ≡ 64 = search rules in
     record {
-      laid = written_in_turn _ _ _ _ c.write_at.new.bytes c.write_at-2.new.bytes c.write-at-3.new.bytes c.write_at-4.new.bytes refl working weekend sale all c.write_at.ensures c.write_at-2.ensures c.write-at-3.ensures c.write_at-4.ensures;
+      laid = written_in_turn _ _ _ _ c.write_at.new.bytes c.write_at-2.new.bytes c.write_at-3.new.bytes c.write_at-4.new.bytes refl working weekend sale all c.write_at.ensures c.write_at-2.ensures c.write_at-3.ensures c.write_at-4.ensures;
       working_long = working;
       weekend_long = weekend;
       sale_long = sale;

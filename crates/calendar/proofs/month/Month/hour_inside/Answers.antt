@@ -2,8 +2,8 @@ use Rattle.std.proofs.Common.{lt_of_lt_of_le, le_of_lt, arith}
 use Rattle.calendar.proofs.Hours.{hour_is, one_hour, standing, total_bounds, month_bounds}
 use Rattle.calendar.proofs.month.Month.hour_inside.Goals as goal
 
-pub even-place-even-requires : goal.even-place-even-requires
-even-place-even-requires c =
+pub even_place-even-requires : goal.even_place-even-requires
+even_place-even-requires c =
     let m = c.args.self.now.number in
     (lt_of_lt_of_le c.args.self.now.inside (month_bounds m).1, le_of_lt (lt_of_lt_of_le c.requires (total_bounds m).1))
 
