@@ -7,10 +7,10 @@ use Rattle.shelf.proofs.Shelf.admit.Goals as goal
 
 pub returns-then-has : goal.returns-then-has
 returns-then-has g c =
-    month_is_taken _ _ (ledger_of g.K.Kind c.args.self.now) (sym c.is-open.ensures ∙ c.if-not-is-open.false) _ c.in-ok-portion.ensures
+    month_is_taken _ _ (ledger_of g.K.Kind c.args.self.now) (sym c.is_open.ensures ∙ c.if-not-is_open.false) _ c.in_ok-portion.ensures
     (has_plain g.K.Kind.term _ (held c.args.self.now.rows) ∙ sym c.if-has.ensures)
 
 pub returns : goal.returns
 returns g c =
-    month_free _ _ (ledger_of g.K.Kind c.args.self.now) (sym c.is-open.ensures ∙ c.if-not-is-open.false) _ c.in-ok-portion.ensures
+    month_free _ _ (ledger_of g.K.Kind c.args.self.now) (sym c.is_open.ensures ∙ c.if-not-is_open.false) _ c.in_ok-portion.ensures
     (has_plain g.K.Kind.term _ (held c.args.self.now.rows) ∙ sym c.if-has.ensures)
