@@ -7,7 +7,7 @@ loop-read-init g c = read_to_none g.S.PriceSource c.args.book.now.terms c.args.s
 
 pub loop-read-preserved : goal.loop-read-preserved
 loop-read-preserved g c =
-    let e = c.in-default.ensures in
+    let e = c.in_default.ensures in
     read_to_more g.S.PriceSource g.met.S.PriceSource.steady c.args.book.now.terms c.args.source.now c.args.readings.now c.loop-read.read
     c.loop-read.book.terms c.read.new.self.terms c.loop-read.book.tally c.read.new.self.tally c.loop-read.source c.read.new.source
     c.loop-read.invariant c.loop-read-test.true (record { answered = e.answer; terms = e.terms; asked = e.asked; history = e.history })

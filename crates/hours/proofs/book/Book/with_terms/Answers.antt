@@ -4,9 +4,16 @@ use Rattle.hours.proofs.Openings.{not_refused, zones_marked}
 use Rattle.hours.proofs.History.{read_none}
 use Rattle.hours.proofs.book.Book.with_terms.Goals as goal
 
-pub invariant-of-result : goal.invariant-of-result
-invariant-of-result c =
-    (search rules, (c.pack-working.ensures.zones, (c.pack-weekend.ensures.zones, (c.requires.prices.1, (search rules, (search rules, tt))))))
+pub invariant_of-result : goal.invariant_of-result
+invariant_of-result c =
+    record {
+      dated = search rules;
+      working = c.pack-working.ensures.zones;
+      weekend = c.pack-weekend.ensures.zones;
+      cheap = c.requires.prices.1;
+      begun = search rules;
+      bounded = search rules;
+    }
 
 pub returns : goal.returns
 returns c =

@@ -5,13 +5,13 @@ use Rattle.hours.specs.declared.book.Tally.{Tally}
 use Rattle.hours.proofs.Growth.{entry_within, still_bounded}
 use Rattle.hours.proofs.book.Tally.with_hour.Goals as goal
 
-pub overflow-add-self-2 : goal.overflow-add-self-2
-overflow-add-self-2 c =
+pub overflow_add-self-2 : goal.overflow_add-self-2
+overflow_add-self-2 c =
     let w = entry_within c.args.self.totals.import c.args.zone c.requires.hour.0 c.requires.room.1.0 in
     search rules
 
-pub overflow-add-self-3 : goal.overflow-add-self-3
-overflow-add-self-3 c =
+pub overflow_add-self-3 : goal.overflow_add-self-3
+overflow_add-self-3 c =
     let w = entry_within c.args.self.totals.export c.args.zone c.requires.hour.0 c.requires.room.1.1 in
     search rules
 

@@ -5,14 +5,14 @@ use Rattle.hours.specs.declared.book.Tally.{Tally}
 use Rattle.hours.proofs.Answered.{zone_here}
 use Rattle.hours.proofs.book.calls.join.Goals as goal
 
-pub with-hour-requires : goal.with-hour-requires
-with-hour-requires c =
-    let z = c.zone-of-zone.ensures.zone in
+pub with_hour-requires : goal.with_hour-requires
+with_hour-requires c =
+    let z = c.zone_of-zone.ensures.zone in
     let m = c.args.terms.now.month.number in
     let f = found_inside m c.args.tally.hours c.args.hour c.requires.hour.0 in
     record {
       hour = (z, omega arith);
-      prices = (c.requires.terms.1.1.1 (c.zone-of-zone.result - 1) (omega arith), c.requires.reading.1.1);
+      prices = (c.requires.terms.1.1.1 (c.zone_of-zone.result - 1) (omega arith), c.requires.reading.1.1);
       room = (lt_of_lt_of_le f.0 (total_bounds m).1, c.requires.room);
     }
 
@@ -21,7 +21,7 @@ returns c =
     let t = c.args.terms.now in
     let y = c.args.tally in
     let f = found_inside t.month.number y.hours c.args.hour c.requires.hour.0 in
-    let z = zone_here t y.hours c.zone-of-zone.result c.args.hour c.requires.hour.0 c.zone-of-zone.ensures.value in
-    let v : c.with-hour.result ≡ joined_at t y c.args.import c.args.export c.args.rate =
-    cc (z, c.with-hour.ensures.value, c.balance-of.ensures.0, c.balance-of.ensures.1) in
-    record { value = v; room = (subst (λ (n : ℕ). n ≤ hours_of t) (sym (ap (λ (x : Tally). x.hours) v)) (omega arith), c.with-hour.ensures.bound) }
+    let z = zone_here t y.hours c.zone_of-zone.result c.args.hour c.requires.hour.0 c.zone_of-zone.ensures.value in
+    let v : c.with_hour.result ≡ joined_at t y c.args.import c.args.export c.args.rate =
+    cc (z, c.with_hour.ensures.value, c.balance_of.ensures.0, c.balance_of.ensures.1) in
+    record { value = v; room = (subst (λ (n : ℕ). n ≤ hours_of t) (sym (ap (λ (x : Tally). x.hours) v)) (omega arith), c.with_hour.ensures.bound) }

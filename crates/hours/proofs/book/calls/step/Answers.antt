@@ -32,7 +32,7 @@ join-requires-in-Some-ask g c =
         c.if-import-gt100000.false,
         (
           c.if-export-gt100000.false,
-          subst (λ (n : ℕ). n ≤ 1000000) (sym c.rate-of.ensures) (rate_within _ q),
+          subst (λ (n : ℕ). n ≤ 1000000) (sym c.rate_of.ensures) (rate_within _ q),
         ),
       );
       terms = c.requires.terms;
