@@ -4,7 +4,7 @@ use Rattle.month_sums.proofs.sums.source_of.Goals as goal
 
 pub returns-in-Err-new : goal.returns-in-Err-new
 returns-in-Err-new c =
-    let f = c.first-refused.ensures in
+    let f = c.first_refused.ensures in
     let n = c.in-Err-new.ensures in
     let out = first_out _ _ _ c.deref.ensures.value f.within f.before f.found n.0 in
-    record { upper = tt; lower = tt; refusal = inr (c.first-refused.result, out, rw (c.hour-line-line.ensures, n.1)) }
+    record { upper = tt; lower = tt; refusal = inr (c.first_refused.result, out, rw (c.hour_line-line.ensures, n.1)) }
