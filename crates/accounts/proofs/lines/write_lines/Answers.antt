@@ -21,8 +21,8 @@ loop-i-preserved g c =
     let z : Line = record { zone = 0; month = 0; used = 0; left = 0 } in
     let long = length_lines_of c.args.zone was ps c.requires.known in
     let lt : i < length ps = omega (arith, c.count-count.ensures, c.loop-i-test.true) in
-    let line = subst (λ n. told (line_of c.args.zone n) (slice_get ps i) ≡ Some c.line-at.result) c.at.ensures c.line-at.ensures in
-    let here = line_there c.args.zone was ps i z c.line-at.result c.requires.known line in
+    let line = subst (λ n. told (line_of c.args.zone n) (slice_get ps i) ≡ Some c.line_at.result) c.at.ensures c.line_at.ensures in
+    let here = line_there c.args.zone was ps i z c.line_at.result c.requires.known line in
     let more = paste_more c.args.lines.now c.args.from ls i z (omega (arith, c.requires.room)) (omega arith) in
     let inv = c.loop-i.invariant in
     cc

@@ -11,13 +11,13 @@ use Rattle.accounts.proofs.Pending.{within_more, imports_small, exports_small, f
 use Rattle.accounts.proofs.Meters.{entered_meter}
 use Rattle.accounts.proofs.metering.Metering.enter.Goals as goal
 
-pub enter-stores-requires : goal.enter-stores-requires
-enter-stores-requires c =
+pub enter_stores-requires : goal.enter_stores-requires
+enter_stores-requires c =
     let was = c.args.self.now in
     let a = metered was in
     let sums = c.args.sums in
     let met = enter_met metering metering_keeps a sums _ c.standing.ensures _ c.month.ensures.value _ c.in-Ok.ensures in
-    let exports = exports_small sums _ (c.by-zone-exports.ensures ∙ ap split_by_zone c.strike-energies.ensures.1) in
+    let exports = exports_small sums _ (c.by_zone-exports.ensures ∙ ap split_by_zone c.strike-energies.ensures.1) in
     record {
       sound = (was.sound_one, was.sound_two, was.sound_three);
       ready = was.ready met.is_open;
@@ -32,21 +32,21 @@ plus-self-requires c =
     let sums = c.args.sums in
     let m = (energies was.stores.one).month in
     let met = enter_met metering metering_keeps a sums _ c.standing.ensures _ c.month.ensures.value _ c.in-Ok.ensures in
-    let imports = imports_small sums _ (c.by-zone-imports.ensures ∙ ap split_by_zone c.strike-energies.ensures.0) in
+    let imports = imports_small sums _ (c.by_zone-imports.ensures ∙ ap split_by_zone c.strike-energies.ensures.0) in
     record {
       left = waiting_few was.period m was.pending (few_in was.period m was.pending was.state Waiting met.waits was.few);
       right = within_more 74500000 447000000 (omega arith) _ imports;
     }
 
-pub invariant-of-self : goal.invariant-of-self
-invariant-of-self c =
+pub invariant_of-self : goal.invariant_of-self
+invariant_of-self c =
     let was = c.args.self.now in
     let a = metered was in
     let sums = c.args.sums in
     let m = (energies was.stores.one).month in
     let met = enter_met metering metering_keeps a sums _ c.standing.ensures _ c.month.ensures.value _ c.in-Ok.ensures in
-    let imports = imports_small sums _ (c.by-zone-imports.ensures ∙ ap split_by_zone c.strike-energies.ensures.0) in
-    let e = c.enter-stores.ensures in
+    let imports = imports_small sums _ (c.by_zone-imports.ensures ∙ ap split_by_zone c.strike-energies.ensures.0) in
+    let e = c.enter_stores.ensures in
     let one = ap (λ (z : Zones (Ledger (Unit {0}))). z.one) e.state in
     let two = ap (λ (z : Zones (Ledger (Unit {0}))). z.two) e.state in
     let three = ap (λ (z : Zones (Ledger (Unit {0}))). z.three) e.state in
@@ -54,34 +54,18 @@ invariant-of-self c =
     let e1 = ap month one in
     let e2 = ap month two in
     let e3 = ap month three in
-    let next : c.in-Ok.next ≡ Entered = met.entered in (
-      e.sound.0,
-      (
-        e.sound.1,
-        (
-          e.sound.2,
-          (
-            was.low,
-            (
-              was.high,
-              (
-                (omega (arith, e1, e2, was.together.0), omega (arith, e1, e3, was.together.1)),
-                (
-                  entered_few was.period m was.pending (few_in was.period m was.pending was.state Waiting met.waits was.few) _ _ c.in-Ok.next _ imports c.plus-self.ensures next e1,
-                  (
-                    (λ w. let z : ◌≡◌ {A = ℕ} 0 1 = cc in absurd (omega arith)),
-                    (
-                      (λ o. (ap (λ (l : Ledger (Unit {0})). l.opened) one, ap (λ (l : Ledger (Unit {0})). l.opened) two, ap (λ (l : Ledger (Unit {0})). l.opened) three)),
-                      tt,
-                    ),
-                  ),
-                ),
-              ),
-            ),
-          ),
-        ),
-      ),
-    )
+    let next : c.in-Ok.next ≡ Entered = met.entered in
+    record {
+      sound_one = e.sound.0;
+      sound_two = e.sound.1;
+      sound_three = e.sound.2;
+      low = was.low;
+      high = was.high;
+      together = (omega (arith, e1, e2, was.together.0), omega (arith, e1, e3, was.together.1));
+      few = entered_few was.period m was.pending (few_in was.period m was.pending was.state Waiting met.waits was.few) _ _ c.in-Ok.next _ imports c.plus-self.ensures next e1;
+      free = (λ w. let z : ◌≡◌ {A = ℕ} 0 1 = cc in absurd (omega arith));
+      ready = (λ o. (ap (λ (l : Ledger (Unit {0})). l.opened) one, ap (λ (l : Ledger (Unit {0})). l.opened) two, ap (λ (l : Ledger (Unit {0})). l.opened) three));
+    }
 
 pub returns-in-Err : goal.returns-in-Err
 returns-in-Err c =
@@ -92,9 +76,9 @@ pub returns-in-Ok : goal.returns-in-Ok
 returns-in-Ok c =
     let a = metered c.args.self.now in
     let sums = c.args.sums in
-    let exports = c.by-zone-exports.ensures ∙ ap split_by_zone c.strike-energies.ensures.1 in
-    let imports = c.by-zone-imports.ensures ∙ ap split_by_zone c.strike-energies.ensures.0 in
-    let e = c.enter-stores.ensures in
+    let exports = c.by_zone-exports.ensures ∙ ap split_by_zone c.strike-energies.ensures.1 in
+    let imports = c.by_zone-imports.ensures ∙ ap split_by_zone c.strike-energies.ensures.0 in
+    let e = c.enter_stores.ensures in
     let out = enter_accepted metering metering_keeps a sums _ c.standing.ensures _ c.month.ensures.value _ c.in-Ok.ensures _
     (λ met. entered_meter a _ _ met.is_open sums _ _ _ met.entered exports imports c.plus-self.ensures e.state) in
     record { answer = out.answer; state = out.state; slots = e.slots; promised = out.promised }

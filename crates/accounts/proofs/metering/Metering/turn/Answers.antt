@@ -5,14 +5,14 @@ use Rattle.accounts.proofs.Outcomes.{turn_refused, turn_accepted, unchanged}
 use Rattle.accounts.proofs.Meters.{turned_meter}
 use Rattle.accounts.proofs.metering.Metering.turn.Goals as goal
 
-pub returns-in-err-next : goal.returns-in-err-next
-returns-in-err-next c =
-    let out = turn_refused metering metering_keeps (metered c.args.self.now) _ c.standing.ensures _ c.in-err-next.ensures _ c.from-residual.ensures.1 in
+pub returns-in_err-next : goal.returns-in_err-next
+returns-in_err-next c =
+    let out = turn_refused metering metering_keeps (metered c.args.self.now) _ c.standing.ensures _ c.in_err-next.ensures _ c.from_residual.ensures.1 in
     record { answer = out.answer; state = out.state; slots = (unchanged _ _, unchanged _ _, unchanged _ _); promised = out.promised }
 
 pub returns : goal.returns
 returns c =
     let a = metered c.args.self.now in
-    let e = c.turn-stores-ended.ensures in
-    let out = turn_accepted metering metering_keeps a _ c.standing.ensures _ c.in-ok-next.ensures _ e.refunded e.lost _ (λ is_open next. turned_meter a _ _ is_open next e.state) in
+    let e = c.turn_stores-ended.ensures in
+    let out = turn_accepted metering metering_keeps a _ c.standing.ensures _ c.in_ok-next.ensures _ e.refunded e.lost _ (λ is_open next. turned_meter a _ _ is_open next e.state) in
     record { answer = out.answer; state = out.state; slots = e.slots; promised = out.promised }
