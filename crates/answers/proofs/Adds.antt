@@ -1,5 +1,5 @@
 -- Printings one after another.
-use Rattle.std.proofs.Common.{◌≡◌, ℕ, ◌+◌, ◌<◌, ◌≤◌, true, cond, List, [], ◌∷◌, ◌++◌, length, get_or, take, drop, is_ok, is_err, IfOk, IfErr, Ok, Err, string_bytes, string_len, string_capacity, Result, String, sym, refl, ap, ◌∙◌, subst, arith, lit<, MatchResult}
+use Rattle.std.proofs.Common.{◌≡◌, ℕ, ◌+◌, ◌<◌, ◌≤◌, true, cond, List, [], ◌∷◌, ◌++◌, length, get_or, take, drop, is_ok, is_err, IfOk, IfErr, Ok, Err, string_bytes, string_len, string_capacity, Result, String, sym, refl, ap, ◌∙◌, subst, arith, lit<, OnErr}
 use Rattle.std.proofs.lemmas.List.{append-nil, append_assoc, length-append, take-append-le, same_lists, places, take_more, take-append-drop}
 use Rattle.answers.specs.declared.kinds.Printed.{Printed}
 use Rattle.answers.specs.declared.kinds.Printed.TheVariants.{Line, Due, Turned, Refused}
@@ -71,7 +71,7 @@ module _ {Z : Type 0} where
 
   module _ {T E : Type 0} where
     -- one line, appended
-    pub adds_one : (r : Result T E) (p : Printed) (before after : String Z) (bytes : List ℕ) → bytes ≡ line_text p → string_bytes after ≡ cond (is_ok r) (string_bytes before ++ bytes) (string_bytes before) → string_capacity before ≤ string_capacity after → MatchResult r (λ _. string_len after ≡ string_len before + length bytes) (λ _. string_capacity before < string_len before + length bytes) → Adds r (p ∷ []) before after
+    pub adds_one : (r : Result T E) (p : Printed) (before after : String Z) (bytes : List ℕ) → bytes ≡ line_text p → string_bytes after ≡ cond (is_ok r) (string_bytes before ++ bytes) (string_bytes before) → string_capacity before ≤ string_capacity after → OnErr r (string_capacity before < string_len before + length bytes) → Adds r (p ∷ []) before after
     adds_one (Ok x) p before after bytes e h cap full = record { text = h ∙ ap (λ t. string_bytes before ++ t) (e ∙ sym (append-nil (line_text p))); room = cap }
     adds_one (Err x) p before after bytes e h cap full =
         record {
