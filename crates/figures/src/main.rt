@@ -1,7 +1,6 @@
 // The worked figures, run through the code: each is printed with what it should be.
 #![tactic(auto)]
 
-
 mod draws;
 mod months;
 mod settlements;

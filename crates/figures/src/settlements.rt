@@ -70,7 +70,7 @@ fn sums_of(heap: Global, working: Days, weekend: Days) -> anyhow::Result<MonthSu
 fn struck(back: Returned) -> anyhow::Error {
     let Returned { fault: _, sums } = back;
     let _ = sums.strike();
-    "the sums are refused".into()
+    anyhow!("the sums are refused")
 }
 
 // The lines of a settlement, and what is due in each zone.
