@@ -7,10 +7,10 @@ use Rattle.desk.proofs.accounts.enter.Goals as goal
 
 pub returns-in-Metering : goal.returns-in-Metering
 returns-in-Metering c =
-    let a = c.enter-metering.ensures in
+    let a = c.enter_metering.ensures in
     record { came = on_metering (sums_entered c.args.sums) _ _ _ _ _ _ c.in-Metering.is (a.came (billed c.args.billing.now)); slots = a.slots; room = refl }
 
 pub returns-in-Billing : goal.returns-in-Billing
 returns-in-Billing c =
-    let a = c.enter-billing.ensures in
+    let a = c.enter_billing.ensures in
     record { came = on_billing (sums_entered c.args.sums) _ _ _ _ _ _ c.in-Billing.is (a.came (metered c.args.metering.now)); slots = refl; room = a.slots }

@@ -8,10 +8,10 @@ use Rattle.desk.specs.Means.{said_with}
 use Rattle.desk.proofs.Calls.{accepted_none, refused_some, accepted_came, refused_came, changes, stays, on_metering, on_billing, same_fewest, first_lines, other_lines, same_settled, same_paid}
 use Rattle.desk.proofs.accounts.settle.Goals as goal
 
-pub returns-in-err-settlement : goal.returns-in-err-settlement
-returns-in-err-settlement c =
-    let p = err_from_is_err_and c.from-residual.result c.from-residual.ensures.1 in
-    let a = c.in-err-settlement.ensures in
+pub returns-in_err-settlement-in-Metering : goal.returns-in_err-settlement-in-Metering
+returns-in_err-settlement-in-Metering c =
+    let p = err_from_is_err_and c.from_residual.result c.from_residual.ensures.1 in
+    let a = c.in_err-settlement-in-Metering.ensures in
     let e = refused_some _ _ _ a.answer in
     record {
       came = on_metering (account_settled _) _ _ _ _ _ _ c.in-Metering.is (refused_came _ _ _ _ _ _ _ e (ap (said_with _) p.1 ∙ ap Err p.2) (ap metered (stays _ _ _ _ _ e a.state)));
@@ -20,9 +20,9 @@ returns-in-err-settlement c =
       room = refl;
     }
 
-pub returns-in-ok-settlement : goal.returns-in-ok-settlement
-returns-in-ok-settlement c =
-    let a = c.in-ok-settlement.ensures in
+pub returns-in_ok-settlement-in-Metering : goal.returns-in_ok-settlement-in-Metering
+returns-in_ok-settlement-in-Metering c =
+    let a = c.in_ok-settlement-in-Metering.ensures in
     let e = accepted_none _ _ _ a.answer in
     let count = ap (λ (s : Settlement). s.lines) e.1 in
     let written = changes _ _ _ _ e.0 a.lines in
@@ -33,9 +33,9 @@ returns-in-ok-settlement c =
       room = refl;
     }
 
-pub returns-in-ok-payment : goal.returns-in-ok-payment
-returns-in-ok-payment c =
-    let a = c.in-ok-payment.ensures in
+pub returns-in_ok-payment-in-Billing : goal.returns-in_ok-payment-in-Billing
+returns-in_ok-payment-in-Billing c =
+    let a = c.in_ok-payment-in-Billing.ensures in
     let e = accepted_none _ _ _ a.answer in
     let count = ap (λ (p : Payment). p.lines) e.1 in
     let written = changes _ _ _ _ e.0 a.lines in

@@ -15,7 +15,7 @@ returns-in-MonthPrice c =
     let b = billed c.args.billing.now in
     record {
       taken = λ s means. told_took _ s _ _ _ _ _ _ (ap record_model c.in-MonthPrice.is) c.told-in-MonthPrice.ensures
-          (subst (λ (z : ℤ). Came (book_step (change (λ _. price_refusal (price_in_range z)) (with_monthly z)) s) (nothing_said c.set-month-price.result) (Means c.set-month-price.new.self m b)) q (c.set-month-price.ensures m b s means));
+          (subst (λ (z : ℤ). Came (book_step (change (λ _. price_refusal (price_in_range z)) (with_monthly z)) s) (nothing_said c.set_month_price.result) (Means c.set_month_price.new.self m b)) q (c.set_month_price.ensures m b s means));
       lines = refl;
       slots = refl;
       room = refl;
@@ -23,8 +23,8 @@ returns-in-MonthPrice c =
 
 pub returns-in-HourPrices : goal.returns-in-HourPrices
 returns-in-HourPrices c = record {
-  taken = λ s means. subst (λ (rec : Rec). Took (memory_of c.args.metering.now c.args.billing.now (length c.args.lines.now)) s rec c.take-prices.result c.args.lines.now (Means c.take-prices.new.self (metered c.args.metering.now) (billed c.args.billing.now))) (sym (ap record_model c.in-HourPrices.is))
-      (c.take-prices.ensures.taken (memory_of c.args.metering.now c.args.billing.now (length c.args.lines.now)) (metered c.args.metering.now) (billed c.args.billing.now) s c.args.lines.now means);
+  taken = λ s means. subst (λ (rec : Rec). Took (memory_of c.args.metering.now c.args.billing.now (length c.args.lines.now)) s rec c.take_prices.result c.args.lines.now (Means c.take_prices.new.self (metered c.args.metering.now) (billed c.args.billing.now))) (sym (ap record_model c.in-HourPrices.is))
+      (c.take_prices.ensures.taken (memory_of c.args.metering.now c.args.billing.now (length c.args.lines.now)) (metered c.args.metering.now) (billed c.args.billing.now) s c.args.lines.now means);
   lines = refl;
   slots = refl;
   room = refl;

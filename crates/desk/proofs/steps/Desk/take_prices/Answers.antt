@@ -5,6 +5,6 @@ use Rattle.desk.proofs.steps.Desk.take_prices.Goals as goal
 
 pub returns-in-Ok : goal.returns-in-Ok
 returns-in-Ok c = record {
-  taken = λ memory m b s lines means. told_took memory s lines _ _ _ _ _ (ap gives_hour_prices (sym c.in-Ok.ensures)) c.told.ensures (c.set-hour-prices.ensures m b s means);
+  taken = λ memory m b s lines means. told_took memory s lines _ _ _ _ _ (ap gives_hour_prices (sym c.in-Ok.ensures)) c.told.ensures (c.set_hour_prices.ensures m b s means);
   lines = no_lines _ _ c.told.ensures;
 }
