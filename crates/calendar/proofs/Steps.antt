@@ -1,8 +1,8 @@
 -- A table that begins at 0 and steps by the length of each month is `days_before_month` at each of its entries.
-use Rattle.std.proofs.Common.{◌≡◌, ℕ, zero, suc, ◌+◌, ◌*◌, ◌<◌, ◌≤◌, Bool, true, false, ◌&&◌, T, eqb, List, [], ◌∷◌, length, get_or, sym, refl, ap, ◌∙◌, le_of_suc-le-suc, not-suc-le-zero, add-zero, add-suc, suc-add, zero-add, arith, eqb→eq}
+use Rattle.std.proofs.Common.{◌≡◌, ℕ, zero, suc, ◌+◌, ◌*◌, ◌<◌, ◌≤◌, Bool, true, false, ◌&&◌, T, eqb, List, [], ◌∷◌, length, get_or, sym, ap, ◌∙◌, le_of_suc-le-suc, not-suc-le-zero, add-zero, add-suc, suc-add, zero-add, arith, eqb→eq}
 use Rattle.std.proofs.lemmas.Bool.Decides.{nat_tests}
 use Rattle.calendar.specs.Sums.{sum_to}
-use Rattle.calendar.specs.Calendar.{steps_to, steps_from, steps, days_of_month, days_before_month}
+use Rattle.calendar.specs.Calendar.{steps_from, steps, days_of_month, days_before_month}
 
 left : (a b : Bool) → T (a && b) → T a
 left true b t = tt

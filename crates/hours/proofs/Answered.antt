@@ -1,11 +1,10 @@
 -- Which readings are refused, and what the others make of the tally.
-use Rattle.std.proofs.Common.{◌≡◌, ℕ, ◌+◌, ◌-◌, ◌*◌, ◌<◌, ◌≤◌, Bool, true, false, cond, ℤ, pos, negsuc, Some, None, Ok, Err, Option, Result, sym, refl, ap, ◌∙◌, subst, zero-mul, arith}
+use Rattle.std.proofs.Common.{◌≡◌, ℕ, ◌-◌, ◌*◌, ◌<◌, ◌≤◌, true, false, cond, ℤ, pos, negsuc, Some, None, Ok, Err, Option, sym, ap, ◌∙◌, subst, zero-mul, arith}
 use Rattle.std.proofs.lemmas.Int.{ints}
 use Rattle.std.proofs.lemmas.Bool.Decides.{nat_tests}
 use Rattle.calendar.specs.declared.month.days.Hour.{Hour}
 use Rattle.calendar.specs.Hour.{hour_of}
 use Rattle.calendar.proofs.Hours.{found_inside}
-use Rattle.faults.specs.declared.BookFault.{BookFault}
 use Rattle.faults.specs.declared.BookFault.TheVariants.{NoPrice}
 use Rattle.hours.specs.Price.{Priced, Ranged, worth, positive}
 use Rattle.hours.specs.Marks.{mark_in_row}

@@ -1,13 +1,13 @@
 -- A month that was opened, read and finished.
-use Rattle.std.proofs.Common.{◌≡◌, ℕ, zero, suc, ◌+◌, ◌-◌, ◌<◌, ◌≤◌, cond, eqb, ltb, List, [], ◌∷◌, length, get_or, ℤ, Some, None, Option, sym, refl, ap, ◌∙◌, subst, le_refl, arith}
+use Rattle.std.proofs.Common.{◌≡◌, ℕ, suc, ◌+◌, ◌-◌, ◌<◌, cond, eqb, List, [], ◌∷◌, length, ℤ, Some, None, Option, sym, refl, ap, ◌∙◌, subst, arith}
 use Rattle.std.proofs.lemmas.Bool.Decides.{nat_tests}
 use Rattle.calendar.specs.Hour.{month_hours}
 use Rattle.faults.specs.declared.BookFault.{BookFault}
 use Rattle.faults.specs.declared.BookFault.TheVariants.{HoursMissing}
 use Rattle.hours.specs.Marks.{zone_by_marks}
-use Rattle.hours.specs.Reading.{hours_of, zone_at, sale_price}
+use Rattle.hours.specs.Reading.{hours_of, zone_at}
 use Rattle.hours.specs.Opening.{book_open_refusal, Opened}
-use Rattle.hours.specs.Month.{HourRead, sum_over, taken_in, given_in, costs, earns, Sums, HasRead, Finished}
+use Rattle.hours.specs.Month.{HourRead, sum_over, taken_in, given_in, costs, Sums, HasRead, Finished}
 use Rattle.hours.specs.Source.{prices_of}
 use Rattle.hours.specs.Whole.{hours_from, MonthSummed, refused_at, refused_from, first, missing, month_refusal, until_refused, questions_from, month_questions, asked_for}
 use Rattle.hours.specs.declared.prices.PriceSource.{Ghosts}

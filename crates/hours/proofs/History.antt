@@ -1,14 +1,13 @@
 -- What a book has read, hour after hour.
-use Rattle.std.proofs.Common.{◌≡◌, ℕ, zero, suc, ◌+◌, ◌-◌, ◌*◌, ◌<◌, ◌≤◌, Bool, true, false, cond, eqb, leb, ◌≢◌, ◌⊎◌, List, [], ◌∷◌, ◌++◌, length, get_or, set, ℤ, Some, None, Ok, Err, Option, Result, sym, refl, ap, ◌∙◌, subst, inl, inr, add-zero, add_assoc, add-suc, suc-add, zero-add, arith, length-append, get_or-set_other, get_or-set_same}
-use Rattle.std.proofs.lemmas.Bool.Decides.{nat_tests, eqb_tells, leb_tells}
+use Rattle.std.proofs.Common.{◌≡◌, ℕ, zero, suc, ◌+◌, ◌-◌, ◌<◌, ◌≤◌, Bool, true, false, cond, eqb, ◌≢◌, List, [], ◌∷◌, ◌++◌, length, get_or, ℤ, Some, None, Option, sym, refl, ap, ◌∙◌, subst, inl, inr, add-zero, add_assoc, add-suc, suc-add, zero-add, arith, length-append, get_or-set_other, get_or-set_same}
+use Rattle.std.proofs.lemmas.Bool.Decides.{nat_tests, eqb_tells}
 use Rattle.faults.specs.declared.BookFault.{BookFault}
-use Rattle.calendar.specs.Hour.{hour_of_place, month_hours}
+use Rattle.calendar.specs.Hour.{hour_of_place}
 use Rattle.calendar.proofs.Hours.{clock_within}
-use Rattle.hours.specs.Price.{worth}
 use Rattle.hours.specs.Marks.{Zone, mark_in_row}
 use Rattle.hours.specs.Bounds.{Zoned, Bounded}
-use Rattle.hours.specs.Reading.{hours_of, zone_at, sale_price, more, grown, joined, read_refusal, too_large, unpriced, unless, reading, answer, after, nothing}
-use Rattle.hours.specs.Month.{HourRead, sum_over, taken_in, given_in, costs, earns, Sums, HasRead, noted, ReadsOn}
+use Rattle.hours.specs.Reading.{hours_of, zone_at, more, joined, read_refusal, unless, reading, answer, after, nothing}
+use Rattle.hours.specs.Month.{HourRead, sum_over, taken_in, given_in, costs, earns, HasRead, ReadsOn}
 use Rattle.hours.specs.declared.book.Terms.{Terms}
 use Rattle.hours.specs.declared.book.Tally.{Tally}
 

@@ -1,8 +1,8 @@
 -- A list of readings, read one after the other.
-use Rattle.std.proofs.Common.{◌≡◌, ℕ, zero, suc, ◌+◌, ◌<◌, ◌≤◌, Bool, true, false, cond, List, [], ◌∷◌, ◌++◌, length, get_or, take, drop, ℤ, Some, None, Ok, Err, Option, Result, sym, refl, ap, ◌∙◌, subst, add-zero, le_of_lt, add-suc, suc-add, zero-add, add-one, arith, length-take, take_all, drop-cons, take-suc}
+use Rattle.std.proofs.Common.{◌≡◌, ℕ, suc, ◌+◌, ◌<◌, ◌≤◌, Bool, true, false, cond, List, [], ◌∷◌, ◌++◌, length, get_or, take, drop, ℤ, Some, None, Ok, Err, Option, Result, sym, refl, ap, ◌∙◌, subst, add-zero, le_of_lt, add-suc, suc-add, zero-add, add-one, arith, length-take, take_all, drop-cons, take-suc}
 use Rattle.std.proofs.lemmas.List.{drop_all}
 use Rattle.faults.specs.declared.BookFault.{BookFault}
-use Rattle.hours.specs.Reading.{hours_of, joined, read_refusal, needs_price, unless, reading, answer}
+use Rattle.hours.specs.Reading.{hours_of, joined, read_refusal, needs_price, unless, answer}
 use Rattle.hours.specs.Month.{HourRead, HasRead, ReadsOn}
 use Rattle.hours.specs.Source.{prices_of, next_price, next_reading, next_hour, next_state}
 use Rattle.hours.specs.Whole.{hours_from, refused_at, refused_from, until_refused, and_at, questions_from, asked_for}

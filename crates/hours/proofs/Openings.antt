@@ -1,9 +1,9 @@
 -- What the tests at an opening show of the marks and the sale prices.
-use Rattle.std.proofs.Common.{◌≡◌, ℕ, ◌<◌, ◌≤◌, Bool, true, false, cond, leb, List, [], length, get_or, Some, None, sym, refl, ap, ◌∙◌, arith}
+use Rattle.std.proofs.Common.{◌≡◌, ℕ, ◌<◌, ◌≤◌, Bool, true, false, cond, leb, List, [], length, get_or, None, ap, ◌∙◌, arith}
 use Rattle.std.proofs.lemmas.Bool.Decides.{nat_tests}
 use Rattle.calendar.specs.Hour.{hour_of_place, month_hours}
 use Rattle.calendar.proofs.Hours.{clock_within}
-use Rattle.hours.specs.Marks.{each_zone, packed, mark_in_row, zone_by_marks}
+use Rattle.hours.specs.Marks.{each_zone, mark_in_row, zone_by_marks}
 use Rattle.hours.specs.Bounds.{Cheap}
 use Rattle.hours.specs.Reading.{zone_at}
 use Rattle.hours.specs.Opening.{each_cheap, book_open_refusal}

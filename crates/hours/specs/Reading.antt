@@ -1,5 +1,5 @@
 -- What reading an hour makes of a book.
-use Rattle.std.specs.Prelude.{ℕ, ◌+◌, ◌-◌, ◌*◌, Bool, true, false, cond, not, ◌&&◌, ◌||◌, List, [], ◌∷◌, ℤ, Some, None, Ok, Err, Option, Result, nat_le, nat_lt, slice_index, slice_set}
+use Rattle.std.specs.Prelude.{ℕ, ◌+◌, ◌-◌, ◌*◌, Bool, false, cond, ◌||◌, List, [], ◌∷◌, ℤ, Some, None, Ok, Err, Option, Result, nat_le, nat_lt, slice_index, slice_set}
 use Rattle.calendar.specs.Hour.{hour_of_place, month_hours}
 use Rattle.faults.specs.declared.BookFault.{BookFault}
 use Rattle.faults.specs.declared.BookFault.TheVariants.{ReadingTooLarge, BookComplete, NoPrice}
@@ -7,7 +7,6 @@ use Rattle.hours.specs.Price.{worth}
 use Rattle.hours.specs.Marks.{mark_in_row}
 use Rattle.hours.specs.declared.book.Terms.{Terms}
 use Rattle.hours.specs.declared.book.Tally.{Tally}
-use Rattle.hours.specs.declared.sums.Totals.{Totals}
 
 -- the hours of the book's month
 abbrev pub hours_of : Terms → ℕ

@@ -1,5 +1,5 @@
 -- What every store keeps from call to call: its totals, its balance, and which portions it tells.
-use Rattle.std.proofs.Common.{◌≡◌, ℕ, ◌+◌, ◌-◌, ◌≤◌, true, List, [], ◌∷◌, ◌++◌, length, filter, sym, refl, ◌∙◌, subst, inl, inr, arith}
+use Rattle.std.proofs.Common.{◌≡◌, ℕ, ◌+◌, ◌-◌, ◌≤◌, true, List, [], ◌∷◌, length, filter, sym, refl, ◌∙◌, subst, inl, inr, arith}
 use Rattle.portions.specs.Portions.{Portion, fresh}
 use Rattle.portions.specs.Totals.{total-++, total_split, total_parts}
 use Rattle.ledger.specs.Kinds.{Kind, LawfulKind, loss}

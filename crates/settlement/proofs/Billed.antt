@@ -1,5 +1,5 @@
 -- What every billing account keeps from call to call, and that it keeps its promise.
-use Rattle.std.proofs.Common.{◌≡◌, ℕ, ◌+◌, ◌-◌, ◌<◌, ◌≤◌, min, Bool, true, false, ◌⊎◌, List, [], ◌∷◌, length, sym, refl, ◌∙◌, subst, inl, inr, arith}
+use Rattle.std.proofs.Common.{◌≡◌, ℕ, ◌+◌, ◌<◌, ◌≤◌, true, false, ◌⊎◌, [], ◌∷◌, sym, refl, subst, inl, inr, arith}
 use Rattle.hours.specs.declared.sums.MonthSums.{MonthSums}
 use Rattle.portions.specs.Taking.{oldest}
 use Rattle.ledger.specs.Kinds.{LawfulKind}
@@ -11,12 +11,11 @@ use Rattle.settlement.specs.declared.answers.Payment.{Payment}
 use Rattle.settlement.specs.declared.states.MonthState.{MonthState}
 use Rattle.settlement.specs.declared.states.MonthState.TheVariants.{Waiting, Entered, Settled}
 use Rattle.settlement.specs.Kinds.{deposit}
-use Rattle.settlement.specs.Lines.{lines_of}
-use Rattle.settlement.specs.History.{Event, History, Had, in_all, unsettled, reached, month-state, SettledOldestFirst}
+use Rattle.settlement.specs.History.{History, Had, in_all, unsettled, reached, month-state, SettledOldestFirst}
 use Rattle.settlement.specs.Refusals.{stands}
 use Rattle.settlement.specs.History.Event.{entered, settled, turned, refused}
 use Rattle.settlement.specs.Promises.{Owed, KeepsPromise}
-use Rattle.settlement.specs.Billing.{BillAccount, BillOpening, billing, payment, paid, month_deposit, month_cap, month_bill, entering_bill, settling_bill, turning_bill}
+use Rattle.settlement.specs.Billing.{BillAccount, BillOpening, billing, paid, month_deposit, month_cap, month_bill, entering_bill, settling_bill, turning_bill}
 use Rattle.settlement.proofs.Cover.{draw_sum, draw_left, length_taking}
 use Rattle.settlement.proofs.Lines.{few_lines_of}
 use Rattle.settlement.proofs.Tables.{opens_in, enter_waits, settle_entered, turn_early, turn_from}

@@ -1,6 +1,6 @@
 -- What one covering of a zone from a store does, and what the whole settlement therefore does.
-use Rattle.std.proofs.Common.{◌≡◌, ℕ, suc, ◌+◌, ◌-◌, ◌*◌, ◌/◌, ◌<◌, ◌≤◌, min, ◌⊎◌, List, [], ◌∷◌, ◌++◌, length, sym, refl, ap, ◌∙◌, subst, inl, inr, arith}
-use native.Mathlib.Nat.{lt-div-mul-add, div-le_of_le-mul, div-eq_of_lt}
+use Rattle.std.proofs.Common.{◌≡◌, ℕ, suc, ◌+◌, ◌-◌, ◌*◌, ◌<◌, ◌≤◌, min, ◌⊎◌, List, [], ◌∷◌, ◌++◌, length, refl, ap, ◌∙◌, subst, inl, inr, arith}
+use native.Mathlib.Nat.{lt-div-mul-add, div-le_of_le-mul}
 use Rattle.std.proofs.lemmas.Bool.{cases_lt}
 use Rattle.portions.specs.Sums.{sum}
 use Rattle.portions.specs.Portions.{Portion}
@@ -10,9 +10,8 @@ use Rattle.ledger.specs.Steps.{taking, takings, drawing}
 use Rattle.ledger.proofs.Lists.{sum_lefts, left_taking, within}
 use Rattle.settlement.specs.declared.states.Zone.{Zone}
 use Rattle.settlement.specs.declared.states.Zone.TheVariants.{First, Second, Third}
-use Rattle.settlement.specs.declared.states.Zones.{Zones}
-use Rattle.settlement.specs.Zones.{of, put}
-use Rattle.settlement.specs.Metering.{Course, wanted, covered, taken, cover, covers, own_stores, other_stores}
+use Rattle.settlement.specs.Zones.{of}
+use Rattle.settlement.specs.Metering.{Course, wanted, covered, cover, covers, own_stores, other_stores}
 use Rattle.settlement.proofs.ByZone.{of_put, put_relates}
 
 pub wanted_serves : (c p : ℕ) → 0 < c → 10 * p ≤ wanted c p * c

@@ -1,5 +1,5 @@
 -- What every metering account keeps from call to call, and that it keeps its promise.
-use Rattle.std.proofs.Common.{◌≡◌, ℕ, ◌+◌, ◌-◌, ◌*◌, ◌<◌, ◌≤◌, Bool, true, false, cond, leb, ◌⊎◌, List, [], ◌∷◌, ◌++◌, length, sym, refl, ap, ◌∙◌, subst, inl, inr, arith, length-append}
+use Rattle.std.proofs.Common.{◌≡◌, ℕ, ◌+◌, ◌-◌, ◌*◌, ◌<◌, ◌≤◌, true, false, cond, leb, ◌⊎◌, List, [], ◌∷◌, ◌++◌, length, sym, refl, ap, ◌∙◌, subst, inl, inr, arith, length-append}
 use Rattle.hours.specs.declared.sums.MonthSums.{MonthSums}
 use Rattle.portions.specs.Taking.{oldest}
 use Rattle.ledger.specs.Kinds.{LawfulKind}
@@ -13,16 +13,16 @@ use Rattle.settlement.specs.declared.states.MonthState.{MonthState}
 use Rattle.settlement.specs.declared.states.MonthState.TheVariants.{Waiting, Entered, Settled}
 use Rattle.settlement.specs.declared.states.Zone.{Zone}
 use Rattle.settlement.specs.declared.states.Zone.TheVariants.{First, Second, Third}
-use Rattle.settlement.specs.Zones.{of, put, all, each, each_two}
+use Rattle.settlement.specs.Zones.{of}
 use Rattle.settlement.specs.Kinds.{energy}
 use Rattle.settlement.specs.Table.{ends, period_of}
-use Rattle.settlement.specs.Bounds.{months_before, pending_months, most_pending}
-use Rattle.settlement.specs.History.{Event, History, Had, in_all, unsettled, reached, month-state, SettledOldestFirst}
+use Rattle.settlement.specs.Bounds.{months_before, most_pending}
+use Rattle.settlement.specs.History.{History, Had, in_all, unsettled, reached, month-state, SettledOldestFirst}
 use Rattle.settlement.specs.Refusals.{stands}
 use Rattle.settlement.specs.History.Event.{entered, settled, turned, refused}
 use Rattle.settlement.specs.Promises.{Owed, KeepsPromise}
 use Rattle.settlement.specs.Metering.{MeterAccount, MeterOpening, Course, metering, opening, coefficient_for, or_monthly, split_by_zone, wanted, cover, covers, own_stores, other_stores, outset, settled_course, entering_meter, settling_meter, turning_meter}
-use Rattle.settlement.proofs.ByZone.{of_put, of_all, put_holds, of_each, of_each_two}
+use Rattle.settlement.proofs.ByZone.{of_all, put_holds, of_each, of_each_two}
 use Rattle.settlement.proofs.Cover.{wanted_small, covers_serves, covers_rests, cover_rests, every_pair, covers_length}
 use Rattle.settlement.proofs.Lines.{few_lines_of}
 use Rattle.settlement.proofs.Tables.{opens_in, enter_waits, settle_entered, turn_early, turn_from, before_few, before_more}

@@ -1,8 +1,8 @@
 -- Calls are accepted and refused as they should be, in the words of the history.
-use Rattle.std.proofs.Common.{◌≡◌, ℕ, ◌<◌, ◌≤◌, Bool, true, false, eqb, ltb, leb, ◌⊎◌, [], ◌∷◌, Some, None, Option, sym, refl, ap, ◌∙◌, subst, inl, inr, arith}
+use Rattle.std.proofs.Common.{◌≡◌, ℕ, ◌<◌, ◌≤◌, Bool, true, false, eqb, ltb, leb, ◌⊎◌, [], ◌∷◌, Some, None, Option, sym, refl, ap, ◌∙◌, inl, inr, arith}
 use Rattle.std.proofs.lemmas.Bool.{eqb-true, eqb-false, leb-true, leb-false, ltb-true, ltb-false}
 use Rattle.faults.specs.declared.AccountFault.{AccountFault}
-use Rattle.faults.specs.declared.AccountFault.TheVariants.{InStore, NotOpen, OtherMonth, TooFewLines, AlreadyEntered, NothingEntered, PeriodGoesOn, NotSettled, AlreadySettled}
+use Rattle.faults.specs.declared.AccountFault.TheVariants.{InStore, OtherMonth, TooFewLines, AlreadyEntered, NothingEntered, PeriodGoesOn, NotSettled, AlreadySettled}
 use Rattle.faults.specs.declared.StoreFault.TheVariants.{LastMonth}
 use Rattle.faults.specs.Numbers.{account_number}
 use Rattle.settlement.specs.declared.standing.Standing.{Standing}
@@ -13,9 +13,9 @@ use Rattle.settlement.specs.Table.{table, barred}
 use Rattle.settlement.specs.Standing.{asks, or_else, enter_refusal, settle_refusal, turn_refusal}
 use Rattle.settlement.specs.Accounts.{Workings}
 use Rattle.settlement.specs.Accounts.Call.{open_for, enter, settle, turn}
-use Rattle.settlement.specs.History.{Event, History, Had, month-state}
+use Rattle.settlement.specs.History.{History, Had, month-state}
 use Rattle.settlement.specs.History.Event.{entered, settled, turned, refused}
-use Rattle.settlement.specs.Refusals.{month-now, ends_now, stands, Rightly, AllRightly}
+use Rattle.settlement.specs.Refusals.{month-now, ends_now, stands, AllRightly}
 use Rattle.settlement.proofs.Tables.{never, asked, or_else_none, enters_in, settles_in, turns_in}
 
 -- where an account stands, by its parts

@@ -7,7 +7,7 @@ use Rattle.settlement.specs.Accounts.{Call, Workings, refusal}
 use Rattle.settlement.specs.Accounts.Call.{open_for, enter, settle, turn}
 use Rattle.settlement.specs.History.{Event, History, Had, Does}
 use Rattle.settlement.specs.History.Event.{entered, settled, turned, refused}
-use Rattle.settlement.specs.Runs.{call-of, Following, CallsHaveHistories, HistoriesDecide}
+use Rattle.settlement.specs.Runs.{call-of, CallsHaveHistories, HistoriesDecide}
 
 module _ {O A S Z T : Type 0} (works : Workings O A S Z T) where
   -- a call on an account at a is one event, and the account is somewhere after it

@@ -1,17 +1,17 @@
 -- A store inside an account that has had calls, and one call more.
-use Rattle.std.proofs.Common.{◌≡◌, ℕ, ◌+◌, ◌<◌, ◌≤◌, Bool, true, false, cond, not, eqb, ltb, leb, List, [], ◌∷◌, Some, None, filter, sym, refl, ◌∙◌, subst, arith}
+use Rattle.std.proofs.Common.{◌≡◌, ℕ, ◌+◌, ◌<◌, ◌≤◌, true, false, cond, List, [], ◌∷◌, None, sym, refl, ◌∙◌, subst, arith}
 use Rattle.std.proofs.lemmas.Bool.{le-leb, lt-ltb, ne_eqb}
 use Rattle.portions.specs.Sums.{sum}
 use Rattle.portions.specs.Portions.{Portion}
 use Rattle.portions.specs.Taking.{oldest}
-use Rattle.ledger.specs.Kinds.{Kind, LawfulKind}
+use Rattle.ledger.specs.Kinds.{Kind}
 use Rattle.ledger.specs.Rules.{Rule, LawfulRule}
 use Rattle.ledger.specs.Ledger.{Ledger, opening, lefts, has}
 use Rattle.ledger.specs.Calls.{refusal}
 use Rattle.ledger.specs.Calls.Call.{enter, draw, turn}
 use Rattle.ledger.specs.Steps.{entering, takings, drawing, stays-in, refunds, losses, turning}
 use Rattle.ledger.specs.History.{History, Had}
-use Rattle.ledger.specs.History.Event.{entered, drew, turned, refused}
+use Rattle.ledger.specs.History.Event.{entered, drew, turned}
 use Rattle.ledger.specs.Totals.{Entered}
 use Rattle.ledger.specs.Best.{WentOldestFirst}
 use Rattle.ledger.proofs.Lists.{UpTo, upto_kept}

@@ -1,5 +1,5 @@
 -- What an account promises after every history, and what a call keeps of it.
-use Rattle.std.specs.Prelude.{◌≡◌, ℕ, ◌+◌, ◌<◌, ◌≤◌, List, [], ◌∷◌, length, Ok, Err, Result}
+use Rattle.std.specs.Prelude.{◌≡◌, ◌+◌, ◌<◌, ◌≤◌, [], ◌∷◌, length, Ok, Err, Result}
 use Rattle.faults.specs.declared.AccountFault.{AccountFault}
 use Rattle.ledger.specs.Rules.{Rule}
 use Rattle.ledger.specs.Ledger.{left_in}

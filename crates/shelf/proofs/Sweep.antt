@@ -1,5 +1,5 @@
 -- The sweep of a turn over the rows.
-use Rattle.std.proofs.Common.{◌≡◌, ℕ, ◌+◌, ◌-◌, ◌*◌, ◌<◌, ◌≤◌, Bool, true, false, cond, not, List, [], ◌∷◌, ◌++◌, length, get_or, take, set, filter, sym, ap, ◌∙◌, subst, add-zero, arith}
+use Rattle.std.proofs.Common.{◌≡◌, ℕ, ◌+◌, ◌*◌, ◌<◌, ◌≤◌, Bool, true, false, cond, not, List, [], ◌∷◌, ◌++◌, length, get_or, take, set, filter, sym, ap, ◌∙◌, subst, add-zero, arith}
 use Rattle.portions.specs.Sums.{total}
 use Rattle.std.proofs.lemmas.List.{append-nil, get_or-drop, get_or_default}
 use Rattle.std.proofs.lemmas.List.Elements.{filter_more}

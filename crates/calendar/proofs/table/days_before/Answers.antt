@@ -1,4 +1,4 @@
-use Rattle.std.proofs.Common.{◌≡◌, ℕ, ◌*◌, ◌≤◌, sym, ◌∙◌, subst, rules}
+use Rattle.std.proofs.Common.{ℕ, ◌*◌, ◌≤◌, sym, subst, rules}
 use Rattle.calendar.proofs.Steps.{entry, at_most}
 use Rattle.calendar.proofs.table.days_before.Goals as goal
 

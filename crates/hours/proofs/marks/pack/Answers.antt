@@ -1,4 +1,4 @@
-use Rattle.std.proofs.Common.{◌≡◌, ℕ, ◌+◌, ◌-◌, ◌*◌, ◌^◌, ◌<◌, ◌≤◌, get_or, drop, sym, ap, ◌∙◌, subst, arith, rules}
+use Rattle.std.proofs.Common.{◌≡◌, ℕ, ◌+◌, ◌-◌, ◌*◌, ◌<◌, get_or, drop, sym, ap, ◌∙◌, subst, arith, rules}
 use Rattle.hours.specs.Marks.{packed, Zone, mark_in_row}
 use Rattle.hours.proofs.Packing.{packed_from, packed_none, small, unpacked, zone_at_clock}
 use Rattle.hours.proofs.marks.pack.Goals as goal

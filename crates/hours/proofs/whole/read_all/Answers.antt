@@ -1,4 +1,3 @@
-use Rattle.std.proofs.Common.{arith}
 use Rattle.hours.proofs.Months.{read_to_none, read_to_more, read_to_refused, read_to_all}
 use Rattle.hours.proofs.whole.read_all.Goals as goal
 

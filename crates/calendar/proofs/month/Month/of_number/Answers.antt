@@ -1,4 +1,4 @@
-use Rattle.std.proofs.Common.{◌≡◌, ℕ, ◌+◌, ◌-◌, ◌*◌, ◌≤◌, sym, ◌∙◌, subst, arith, rules}
+use Rattle.std.proofs.Common.{◌≡◌, ℕ, ◌+◌, ◌-◌, ◌*◌, ◌≤◌, sym, subst, rules}
 use Rattle.calendar.specs.Hour.{month_hours}
 use Rattle.calendar.proofs.Hours.{total, total_bounds}
 use Rattle.calendar.proofs.month.Month.of_number.Goals as goal

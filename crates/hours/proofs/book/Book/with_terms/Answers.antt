@@ -1,4 +1,4 @@
-use Rattle.std.proofs.Common.{◌≡◌, refl, rules}
+use Rattle.std.proofs.Common.{refl, rules}
 use Rattle.hours.specs.declared.book.Terms.{Terms}
 use Rattle.hours.proofs.Openings.{not_refused, zones_marked}
 use Rattle.hours.proofs.History.{read_none}

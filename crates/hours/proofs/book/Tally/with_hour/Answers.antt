@@ -1,7 +1,4 @@
-use Rattle.std.proofs.Common.{◌≡◌, ℕ, ◌+◌, ◌*◌, ◌≤◌, sym, subst, arith, rules}
-use Rattle.hours.specs.Bounds.{Bounded}
-use Rattle.hours.specs.Reading.{grown}
-use Rattle.hours.specs.declared.book.Tally.{Tally}
+use Rattle.std.proofs.Common.{rules}
 use Rattle.hours.proofs.Growth.{entry_within, still_bounded}
 use Rattle.hours.proofs.book.Tally.with_hour.Goals as goal
 

@@ -1,4 +1,4 @@
-use Rattle.std.proofs.Common.{◌≡◌, Bool, true, false, leb, sym, arith}
+use Rattle.std.proofs.Common.{leb, sym, arith}
 use Rattle.std.proofs.lemmas.Bool.Decides.{nat_tests}
 use Rattle.hours.proofs.Each.{every_fails, every_goes_on, every_ends}
 use Rattle.hours.proofs.Openings.{cheap}

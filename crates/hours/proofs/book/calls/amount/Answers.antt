@@ -1,4 +1,4 @@
-use Rattle.std.proofs.Common.{◌≡◌, ℕ, ◌*◌, ◌≤◌, ap, ◌∙◌, subst, le_refl, mul_comm, mul-le-mul, arith, rules}
+use Rattle.std.proofs.Common.{◌≡◌, ℕ, ◌*◌, ◌≤◌, le_refl, mul_comm, mul-le-mul, rules}
 use Rattle.hours.proofs.book.calls.amount.Goals as goal
 
 at_most : (e p x y : ℕ) → x ≡ e → y ≡ p → p ≤ 1000000 → x * y ≤ 1000000 * e

@@ -1,4 +1,4 @@
-use Rattle.std.proofs.Common.{◌≡◌, ℕ, ◌+◌, ◌-◌, ◌<◌, ◌≤◌, sym, ap, ◌∙◌, subst, lt_of_lt_of_le, arith, rules}
+use Rattle.std.proofs.Common.{◌≡◌, ℕ, ◌-◌, ◌≤◌, sym, ap, subst, lt_of_lt_of_le, arith}
 use Rattle.calendar.proofs.Hours.{found_inside, total_bounds}
 use Rattle.hours.specs.Reading.{hours_of, joined_at}
 use Rattle.hours.specs.declared.book.Tally.{Tally}

@@ -1,4 +1,4 @@
-use Rattle.std.proofs.Common.{◌≡◌, Result, sym, subst}
+use Rattle.std.proofs.Common.{Result, sym, subst}
 use Rattle.faults.specs.declared.BookFault.{BookFault}
 use Rattle.hours.specs.Reading.{answer, after}
 use Rattle.hours.specs.Month.{ReadsOn}

@@ -1,10 +1,9 @@
-use Rattle.std.proofs.Common.{◌≡◌, ℕ, ◌≤◌, Bool, cond, sym, ap, ◌∙◌, subst, arith, w32, to_z, of_z, rules}
+use Rattle.std.proofs.Common.{ℕ, ◌≤◌, Bool, cond, sym, ap, subst, arith, w32, to_z, of_z}
 use Rattle.std.proofs.lemmas.Int.{ints}
-use Rattle.std.proofs.lemmas.Bool.Decides.{nat_tests}
 use Rattle.calendar.proofs.Hours.{found_inside}
-use Rattle.hours.specs.Price.{Ranged, Priced, positive}
+use Rattle.hours.specs.Price.{Priced}
 use Rattle.hours.specs.Reading.{hours_of}
-use Rattle.hours.proofs.Answered.{Readable, read_unpriced, read_priced, refused_unpriced, price_in_range, rate_within, needs_none}
+use Rattle.hours.proofs.Answered.{Readable, read_unpriced, price_in_range, rate_within, needs_none}
 use Rattle.hours.proofs.book.calls.step.Goals as goal
 
 pub returns-then-export-import : goal.returns-then-export-import
