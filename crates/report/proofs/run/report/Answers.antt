@@ -9,6 +9,6 @@ returns c = record {
   wanting = c.run.ensures.wanting;
   every_byte = every_byte _;
   continues = continues _;
-  refusals_alone = refusals_alone _;
-  keeps_promises = keeps_promises _;
+  refused_alone = refusals_alone _;
+  promises_kept = keeps_promises _;
 }

@@ -11,29 +11,29 @@ use Rattle.report.proofs.run.run.Goals as goal
 pub loop-rest-init : goal.loop-rest-init
 loop-rest-init c = (start _ _ _ _ _ c.new-out.ensures.bytes (c.new-desk.ensures (metered c.args.metering.now) (billed c.args.billing.now)), c.requires.slots, c.requires.room, c.requires.lines)
 
-pub returns-in-err-print-refusal : goal.returns-in-err-print-refusal
-returns-in-err-print-refusal c =
+pub returns-in_err-print_refusal : goal.returns-in_err-print_refusal
+returns-in_err-print_refusal c =
     let some : 0 < length c.loop-rest.rest.now = search rules in
-    let w = wanting _ _ _ c.from-residual.ensures.0 (wants_end _ _ _ _ _ _ _ c.loop-rest.invariant.0 (sym c.in-default.ensures) some) in
+    let w = wanting _ _ _ c.from_residual.ensures.0 (wants_end _ _ _ _ _ _ _ c.loop-rest.invariant.0 (sym c.in_default.ensures) some) in
     record { text = w.0; wanting = w.1 }
 
-pub returns-in-default : goal.returns-in-default
-returns-in-default c =
+pub returns-in_default : goal.returns-in_default
+returns-in_default c =
     let some : 0 < length c.loop-rest.rest.now = search rules in
-    record { text = c.in-ok-print-refusal.ensures.text ∙ ap (λ n. string_bytes c.loop-rest.out ++ refusal_text c.loop-rest.place n) c.number.ensures ∙ ended _ _ _ _ _ _ _ c.loop-rest.invariant.0 (sym c.in-default.ensures) some; wanting = tt }
+    record { text = c.in_ok-print_refusal.ensures.text ∙ ap (λ n. string_bytes c.loop-rest.out ++ refusal_text c.loop-rest.place n) c.number.ensures ∙ ended _ _ _ _ _ _ _ c.loop-rest.invariant.0 (sym c.in_default.ensures) some; wanting = tt }
 
-pub returns-in-err-answer : goal.returns-in-err-answer
-returns-in-err-answer c =
+pub returns-in_err-answer : goal.returns-in_err-answer
+returns-in_err-answer c =
     let f : Framed = record { kind = c.in-Some.frame.kind; payload = c.in-Some.frame.payload.now; rest = c.in-Some.frame.rest.now } in
     let so = c.loop-rest.invariant.0 in
-    let w = wanting _ _ _ c.from-residual-in-err-answer.ensures.0 (wants_prices _ _ _ _ _ _ _ so f (sym c.in-Some.ensures) (c.in-err-answer.ensures.came so.state so.means)) in
+    let w = wanting _ _ _ c.from_residual-in_err-answer.ensures.0 (wants_prices _ _ _ _ _ _ _ so f (sym c.in-Some.ensures) (c.in_err-answer.ensures.came so.state so.means)) in
     record { text = w.0; wanting = w.1 }
 
-pub returns-in-err-print : goal.returns-in-err-print
-returns-in-err-print c =
+pub returns-in_err-print : goal.returns-in_err-print
+returns-in_err-print c =
     let f : Framed = record { kind = c.in-Some.frame.kind; payload = c.in-Some.frame.payload.now; rest = c.in-Some.frame.rest.now } in
     let so = c.loop-rest.invariant.0 in
-    let w = wanting _ _ _ c.from-residual-in-err-print.ensures.0 (wants_text _ _ _ _ _ _ _ so f (sym c.in-Some.ensures) _ (Means c.step.new.desk (metered c.step.new.metering) (billed c.step.new.billing)) (c.in-ok-answer.ensures.came so.state so.means) c.in-err-print.ensures.wanting) in
+    let w = wanting _ _ _ c.from_residual-in_err-print.ensures.0 (wants_text _ _ _ _ _ _ _ so f (sym c.in-Some.ensures) _ (Means c.step.new.desk (metered c.step.new.metering) (billed c.step.new.billing)) (c.in_ok-answer.ensures.came so.state so.means) c.in_err-print.ensures.wanting) in
     record { text = w.0; wanting = w.1 }
 
 pub loop-rest-smaller : goal.loop-rest-smaller
@@ -43,7 +43,7 @@ pub loop-rest-preserved : goal.loop-rest-preserved
 loop-rest-preserved c =
     let f : Framed = record { kind = c.in-Some.frame.kind; payload = c.in-Some.frame.payload.now; rest = c.in-Some.frame.rest.now } in
     let so = c.loop-rest.invariant.0 in (
-      one_more _ _ _ _ _ _ _ so f (sym c.in-Some.ensures) _ _ _ _ _ (c.in-ok-answer.ensures.came so.state so.means) c.in-ok-print.ensures.text,
+      one_more _ _ _ _ _ _ _ so f (sym c.in-Some.ensures) _ _ _ _ _ (c.in_ok-answer.ensures.came so.state so.means) c.in_ok-print.ensures.text,
       c.step.ensures.slots,
       c.step.ensures.room,
       c.step.auto.lines ∙ c.loop-rest.invariant.3,
