@@ -1,13 +1,11 @@
 -- A billing account after each accepted call, from its parts.
-use Rattle.std.proofs.Common.{◌≡◌, ℕ, ◌-◌, Bool, true, length, Some, None, Ok, Err, Option, Result, ap, ◌∙◌, subst}
-use Rattle.faults.specs.declared.AccountFault.{AccountFault}
+use Rattle.std.proofs.Common.{◌≡◌, ℕ, ◌-◌, Bool, true, length, ap}
 use Rattle.hours.specs.declared.sums.MonthSums.{MonthSums}
 use Rattle.portions.specs.Sums.{sum}
 use Rattle.ledger.specs.Rules.{Rule}
 use Rattle.ledger.specs.Ledger as ledger
 use Rattle.ledger.specs.Ledger.{Ledger}
 use Rattle.ledger.specs.Steps.{entering, drawing, turning}
-use Rattle.settlement.specs.declared.answers.Payment.{Payment}
 use Rattle.settlement.specs.declared.states.MonthState.{MonthState}
 use Rattle.settlement.specs.declared.states.MonthState.TheVariants.{Waiting, Entered, Settled}
 use Rattle.settlement.specs.Kinds.{deposit}

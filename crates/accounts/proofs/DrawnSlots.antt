@@ -1,5 +1,5 @@
 -- What draws one after the other do to the slots.
-use Rattle.std.proofs.Common.{◌≡◌, ℕ, max, Bool, true, false, drop, ◌∙◌, subst, arith}
+use Rattle.std.proofs.Common.{◌≡◌, ℕ, max, true, drop, ◌∙◌, subst, arith}
 use Rattle.shelf.specs.declared.Shelf.{Shelf}
 use Rattle.shelf.specs.Held.{lent, in_use}
 use Rattle.settlement.specs.declared.states.Zones.{Zones}

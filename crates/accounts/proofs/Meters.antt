@@ -6,7 +6,6 @@ use Rattle.ledger.specs.Ledger as ledger
 use Rattle.ledger.specs.Ledger.{Ledger, lefts}
 use Rattle.ledger.specs.Steps.{entering, turning}
 use Rattle.settlement.specs.declared.answers.Line.{Line}
-use Rattle.settlement.specs.declared.answers.Settlement.{Settlement}
 use Rattle.settlement.specs.declared.states.MonthState.{MonthState}
 use Rattle.settlement.specs.declared.states.MonthState.TheVariants.{Waiting, Entered, Settled}
 use Rattle.settlement.specs.declared.states.Period.{Period}

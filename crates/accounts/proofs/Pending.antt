@@ -1,5 +1,5 @@
 -- What is pending stays within what its months can have brought.
-use Rattle.std.proofs.Common.{◌≡◌, ℕ, ◌+◌, ◌*◌, ◌≤◌, sym, subst, arith}
+use Rattle.std.proofs.Common.{◌≡◌, ℕ, ◌+◌, ◌≤◌, sym, subst, arith}
 use Rattle.hours.specs.declared.sums.MonthSums.{MonthSums}
 use Rattle.settlement.specs.declared.states.MonthState.{MonthState}
 use Rattle.settlement.specs.declared.states.MonthState.TheVariants.{Waiting, Entered}
@@ -7,7 +7,7 @@ use Rattle.settlement.specs.declared.states.Period.{Period}
 use Rattle.settlement.specs.declared.states.Zone.TheVariants.{First, Second, Third}
 use Rattle.settlement.specs.declared.states.Zones.{Zones}
 use Rattle.settlement.specs.Zones.{each_two}
-use Rattle.settlement.specs.Bounds.{most_pending, months_before}
+use Rattle.settlement.specs.Bounds.{most_pending}
 use Rattle.settlement.specs.Metering.{split_by_zone}
 use Rattle.settlement.proofs.Tables.{before_few}
 use Rattle.settlement.proofs.Sums.{import_small, export_small}

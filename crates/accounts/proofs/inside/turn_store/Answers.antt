@@ -1,4 +1,4 @@
-use Rattle.std.proofs.Common.{◌≡◌, ap, ◌∙◌, arith}
+use Rattle.std.proofs.Common.{ap, ◌∙◌, arith}
 use Rattle.ledger.specs.Calls.{answers, becomes}
 use Rattle.ledger.specs.Steps.{turning, refunds, losses}
 use Rattle.shelf.specs.Reading.{kind_of, ledger_of}
