@@ -1,5 +1,5 @@
 -- Records that bear on the book, where an account is open and where none is.
-use Rattle.std.proofs.Common.{◌≡◌, ℕ, Some, None, Ok, Err, Option, Result, sym, refl, ap, ◌∙◌, subst, arith}
+use Rattle.std.proofs.Common.{◌≡◌, ℕ, Some, None, Ok, Err, Option, Result, sym, ap, ◌∙◌, subst, arith}
 use Rattle.faults.specs.declared.ProgramFault.{ProgramFault}
 use Rattle.faults.specs.declared.ProgramFault.TheVariants.{OutOfPlace}
 use Rattle.settlement.specs.Metering.{MeterAccount}
@@ -9,11 +9,11 @@ use Rattle.desk.specs.declared.accounts.Opened.{Opened}
 use Rattle.desk.specs.declared.accounts.Opened.TheVariants.{Neither, Metering, Billing}
 use Rattle.desk.specs.declared.book.OpenBook.{OpenBook}
 use Rattle.desk.specs.declared.steps.Desk.{Desk}
-use Rattle.desk.specs.State.{Account, BookState, State}
+use Rattle.desk.specs.State.{BookState, State}
 use Rattle.desk.specs.Outcome.{Outcome}
 use Rattle.desk.specs.Accounts.{own_month}
 use Rattle.desk.specs.Steps.{book_step, with_account, finish_book}
-use Rattle.desk.specs.Means.{BookCame, BookHolds, Came, Means, account_of, has_account}
+use Rattle.desk.specs.Means.{BookCame, Came, Means, account_of, has_account}
 
 abbrev Does : Type 0
 Does = ℕ → Option BookState → Outcome (Option BookState)

@@ -1,5 +1,5 @@
 -- Calls on an account, accepted or refused.
-use Rattle.std.proofs.Common.{◌≡◌, ℕ, min, Bool, List, ◌++◌, length, take, drop, Some, None, Ok, Err, Option, Result, sym, refl, ap, ◌∙◌, subst, arith}
+use Rattle.std.proofs.Common.{◌≡◌, ℕ, min, Bool, List, length, take, drop, Some, None, Ok, Err, Option, Result, sym, refl, ap, ◌∙◌, subst, arith}
 use lib.Seq.{take-append_seam, drop-append_seam}
 use Rattle.faults.specs.declared.AccountFault.{AccountFault}
 use Rattle.faults.specs.declared.ProgramFault.{ProgramFault}

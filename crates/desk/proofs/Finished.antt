@@ -1,7 +1,6 @@
 -- A complete book.
-use Rattle.std.proofs.Common.{◌≡◌, ℕ, cond, ltb, length, Some, None, Option, sym, ap, ◌∙◌, arith}
+use Rattle.std.proofs.Common.{◌≡◌, ℕ, cond, ltb, length, Some, None, sym, ap, ◌∙◌, arith}
 use Rattle.std.proofs.lemmas.Bool.Decides.{nat_tests}
-use Rattle.faults.specs.declared.BookFault.{BookFault}
 use Rattle.calendar.specs.Hour.{month_hours}
 use Rattle.hours.specs.Reading.{hours_of}
 use Rattle.desk.specs.declared.book.OpenBook.{OpenBook}

@@ -1,10 +1,9 @@
 -- A book after the next hour, and its prices.
-use Rattle.std.proofs.Common.{◌≡◌, ℕ, ◌<◌, Bool, true, false, cond, List, [], ◌∷◌, ◌++◌, length, ℤ, Some, None, Ok, Err, Option, Result, sym, refl, ap, ◌∙◌, subst, arith}
+use Rattle.std.proofs.Common.{◌≡◌, ℕ, Bool, true, false, cond, List, length, ℤ, Some, None, Ok, Err, Option, Result, sym, refl, ap, ◌∙◌, subst, arith}
 use Rattle.std.specs.Option.{option_map}
 use Rattle.faults.specs.declared.BookFault.{BookFault}
 use Rattle.calendar.specs.Hour.{month_hours}
 use Rattle.hours.specs.Price.{or_else, unless_some}
-use Rattle.hours.specs.Marks.{zone_by_marks}
 use Rattle.hours.specs.Reading.{zone_at, answer, reading, read_refusal, unless, joined}
 use Rattle.hours.specs.Month.{HourRead, HasRead, noted}
 use Rattle.hours.specs.declared.book.Terms.{Terms}

@@ -1,5 +1,5 @@
 -- Prices in range, by a test and as a fact, and a book after it was given prices.
-use Rattle.std.proofs.Common.{◌≡◌, ℕ, zero, suc, ◌<◌, Bool, true, false, cond, ◌&&◌, eqb, ltb, List, [], ◌∷◌, length, get_or, ℤ, pos, negsuc, Some, None, Ok, Err, vec_items, Option, Result, sym, refl, ap, ◌∙◌, subst, arith, rules, eq-eqb}
+use Rattle.std.proofs.Common.{◌≡◌, ℕ, zero, suc, Bool, true, false, ◌&&◌, ltb, List, [], ◌∷◌, length, get_or, ℤ, pos, negsuc, Some, None, Err, vec_items, Option, Result, sym, refl, ap, ◌∙◌, subst, arith, rules, eq-eqb}
 use Rattle.faults.specs.declared.BookFault.{BookFault}
 use Rattle.faults.specs.declared.BookFault.TheVariants.{PriceOutOfRange}
 use Rattle.hours.specs.Price.{Priced, AllPriced, when}
@@ -7,7 +7,7 @@ use Rattle.hours.specs.declared.prices.HourPrices.{HourPrices}
 use Rattle.desk.specs.declared.book.OpenBook.{OpenBook}
 use Rattle.desk.specs.State.{BookState}
 use Rattle.desk.specs.Books.{price_in_range, each_in_range, price_refusal, hourly_at, with_hourly}
-use Rattle.desk.specs.Means.{Holds, HoldsAfter, hours_are, hours_give}
+use Rattle.desk.specs.Means.{Holds, HoldsAfter, hours_give}
 
 ranged : (z : ℤ) → Priced z → price_in_range z ≡ true
 ranged (pos n) h = search rules

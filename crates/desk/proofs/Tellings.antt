@@ -7,7 +7,6 @@ use Rattle.settlement.specs.Billing.{BillAccount}
 use Rattle.records.specs.Records.{Rec}
 use Rattle.answers.specs.Said.{Said}
 use Rattle.answers.specs.declared.kinds.Answer.{Answer}
-use Rattle.desk.specs.declared.accounts.Opened.{Opened}
 use Rattle.desk.specs.declared.book.OpenBook.{OpenBook}
 use Rattle.desk.specs.declared.steps.Desk.{Desk}
 use Rattle.desk.specs.declared.steps.StepFault.{StepFault}

@@ -1,15 +1,15 @@
 -- What records do to the account.
-use Rattle.std.specs.Prelude.{ℕ, cond, List, Some, None, Option, nat_le}
+use Rattle.std.specs.Prelude.{ℕ, cond, Some, None, Option, nat_le}
 use Rattle.faults.specs.declared.ProgramFault.TheVariants.{OutOfPlace}
 use Rattle.hours.specs.declared.sums.MonthSums.{MonthSums}
 use Rattle.portions.specs.Taking.{oldest, proportional}
 use Rattle.ledger.specs.Rules.{Rule}
 use Rattle.settlement.specs.Accounts.{refusal}
-use Rattle.settlement.specs.Accounts.Call.{open_for, enter, settle, turn}
-use Rattle.settlement.specs.Metering.{MeterOpening, MeterAccount, metering}
-use Rattle.settlement.specs.Billing.{BillOpening, BillAccount, billing}
+use Rattle.settlement.specs.Accounts.Call.{enter, settle, turn}
+use Rattle.settlement.specs.Metering.{MeterOpening, metering}
+use Rattle.settlement.specs.Billing.{BillOpening, billing}
 use Rattle.answers.specs.Said.Said.{nothing, settled, paid, turned}
-use Rattle.desk.specs.State.{Account, Memory}
+use Rattle.desk.specs.State.{Account}
 use Rattle.desk.specs.State.Account.{none, metered, billed}
 use Rattle.desk.specs.Outcome.{Outcome, refused, by_account}
 

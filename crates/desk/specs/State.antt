@@ -1,5 +1,5 @@
 -- What the program holds between two records.
-use Rattle.std.specs.Prelude.{ℕ, List, ℤ, Some, None, Option}
+use Rattle.std.specs.Prelude.{ℕ, List, ℤ, None, Option}
 use Rattle.hours.specs.Month.{HourRead}
 use Rattle.settlement.specs.Metering.{MeterAccount}
 use Rattle.settlement.specs.Billing.{BillAccount}

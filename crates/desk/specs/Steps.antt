@@ -1,5 +1,5 @@
 -- What each record does.
-use Rattle.std.specs.Prelude.{ℕ, List, ℤ, Some, None, Option}
+use Rattle.std.specs.Prelude.{ℕ, List, Some, None, Option}
 use Rattle.faults.specs.declared.BookFault.{BookFault}
 use Rattle.faults.specs.declared.BookFault.TheVariants.{HoursMissing}
 use Rattle.faults.specs.declared.ProgramFault.TheVariants.{OutOfPlace, InBook}

@@ -1,5 +1,5 @@
 -- How far a run has come: what a turn of its loop keeps, and what it comes to.
-use Rattle.std.proofs.Common.{◌≡◌, ℕ, zero, suc, ◌+◌, ◌<◌, ◌≤◌, Bool, true, false, cond, List, [], ◌∷◌, ◌++◌, length, take, drop, is_err, IfOk, IfErr, Some, None, Ok, Err, Option, Result, sym, refl, ap, ◌∙◌, subst, inl, inr, append_assoc, append-nil, arith, length-append}
+use Rattle.std.proofs.Common.{◌≡◌, ℕ, zero, suc, ◌+◌, ◌<◌, ◌≤◌, Bool, true, false, cond, List, [], ◌∷◌, ◌++◌, length, take, drop, is_err, IfOk, IfErr, Some, None, Ok, Err, Option, Result, sym, refl, ap, ◌∙◌, subst, inl, inr, append_assoc, append-nil, arith}
 use Rattle.std.proofs.lemmas.List.{flat_map_more}
 use Rattle.std.specs.List.{flat_map}
 use Rattle.std.specs.declared.alloc.AllocError.{AllocError}
@@ -7,7 +7,7 @@ use Rattle.faults.specs.declared.ProgramFault.{ProgramFault}
 use Rattle.settlement.specs.Metering.{MeterAccount}
 use Rattle.settlement.specs.Billing.{BillAccount}
 use Rattle.records.specs.Frames.{Framed, framed, first_frame, head_kind, whole}
-use Rattle.records.specs.Records.{Read, decoded}
+use Rattle.records.specs.Records.{decoded}
 use Rattle.records.proofs.Heads.{framed_parts, framed_joined}
 use Rattle.answers.specs.Said.{Said}
 use Rattle.answers.specs.Answers.{refusal_text}
@@ -16,8 +16,8 @@ use Rattle.desk.specs.declared.steps.Desk.{Desk}
 use Rattle.desk.specs.State.{State, outset}
 use Rattle.desk.specs.Outcome.{Outcome}
 use Rattle.desk.specs.Means.{Came, Means}
-use Rattle.report.specs.Runs.{Entry, Trace, says, handled, outcome, answer_text, entry_text, first, no_record, entry_at, traced, trace, end_text, trace_text, report_text}
-use Rattle.report.specs.Laws.{Follows, ReadsPrices, KeepsPrices, NeedsMemory}
+use Rattle.report.specs.Runs.{Entry, Trace, says, handled, outcome, answer_text, entry_text, first, entry_at, traced, trace, end_text, trace_text, report_text}
+use Rattle.report.specs.Laws.{Follows, ReadsPrices, NeedsMemory}
 use Rattle.report.proofs.Traces.{traced_some, traced_none}
 
 -- records before a trace

@@ -2,7 +2,7 @@
 use Rattle.std.proofs.Common.{◌≡◌, ℕ, zero, suc, ◌+◌, List, length, Some, None, Option, refl, ap}
 use Rattle.records.specs.Frames.{Framed, framed}
 use Rattle.desk.specs.State.{State}
-use Rattle.report.specs.Runs.{Trace, first, no_record, by_frame, entry_at, outcome, traced}
+use Rattle.report.specs.Runs.{first, no_record, by_frame, entry_at, outcome, traced}
 
 -- where a whole record is first
 pub traced_some : (k : ℕ) (s : State) (at : ℕ) (bs : List ℕ) (f : Framed) → framed bs ≡ Some f →

@@ -1,5 +1,5 @@
 -- What holds of every run, in the words of a record file and its accounts.
-use Rattle.std.specs.Prelude.{◌≡◌, ℕ, ◌+◌, ◌⊎◌, List, [], ◌∷◌, ◌++◌, length, Some, None, Ok, Err, ◌≢◌}
+use Rattle.std.specs.Prelude.{◌≡◌, ℕ, ◌+◌, ◌⊎◌, List, [], ◌∷◌, ◌++◌, length, None, Ok, Err, ◌≢◌}
 use Rattle.std.specs.List.{flat_map}
 use Rattle.faults.specs.declared.AccountFault.{AccountFault}
 use Rattle.faults.specs.declared.ProgramFault.{ProgramFault}
@@ -10,7 +10,7 @@ use Rattle.records.specs.Records.{Read}
 use Rattle.records.specs.Records.Rec.{finish}
 use Rattle.answers.specs.Answers.{refusal_text}
 use Rattle.desk.specs.Means.{BringsPrices}
-use Rattle.report.specs.Runs.{Entry, Trace, says, outcome, entry_text, trace, report_text}
+use Rattle.report.specs.Runs.{Entry, says, outcome, entry_text, trace, report_text}
 use Rattle.report.specs.Past.{past_of, Keeps}
 
 -- the bytes of records, one after another

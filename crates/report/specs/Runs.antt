@@ -5,7 +5,7 @@ use Rattle.faults.specs.declared.ProgramFault.{ProgramFault}
 use Rattle.faults.specs.declared.ProgramFault.TheVariants.{FileEnds}
 use Rattle.faults.specs.Numbers.{program_number}
 use Rattle.records.specs.Frames.{Framed, framed, head_kind}
-use Rattle.records.specs.Records.{Rec, Read, decoded}
+use Rattle.records.specs.Records.{Read, decoded}
 use Rattle.answers.specs.Said.{Said}
 use Rattle.answers.specs.Answers.{said_text, refusal_text}
 use Rattle.desk.specs.State.{State, Memory, outset}
