@@ -5,8 +5,8 @@ use Rattle.faults.specs.declared.ProgramFault.TheVariants.{OutOfPlace}
 use Rattle.settlement.specs.Metering.{MeterAccount}
 use Rattle.settlement.specs.Billing.{BillAccount}
 use Rattle.answers.specs.Said.{Said}
-use Rattle.desk.specs.declared.accounts.Opened.{Opened}
-use Rattle.desk.specs.declared.accounts.Opened.TheVariants.{Neither, Metering, Billing}
+use Rattle.desk.specs.declared.account_calls.Opened.{Opened}
+use Rattle.desk.specs.declared.account_calls.Opened.TheVariants.{Neither, Metering, Billing}
 use Rattle.desk.specs.declared.book.OpenBook.{OpenBook}
 use Rattle.desk.specs.declared.steps.Desk.{Desk}
 use Rattle.desk.specs.State.{BookState, State}

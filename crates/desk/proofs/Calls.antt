@@ -21,8 +21,8 @@ use Rattle.settlement.specs.Metering.{MeterAccount}
 use Rattle.settlement.specs.Billing.{BillAccount}
 use Rattle.accounts.specs.Means.{EnergyShelf, fewest}
 use Rattle.accounts.specs.Slots.{EachSame, EachAccounted}
-use Rattle.desk.specs.declared.accounts.Opened.{Opened}
-use Rattle.desk.specs.declared.accounts.Opened.TheVariants.{Neither, Metering, Billing}
+use Rattle.desk.specs.declared.account_calls.Opened.{Opened}
+use Rattle.desk.specs.declared.account_calls.Opened.TheVariants.{Neither, Metering, Billing}
 use Rattle.desk.specs.State.{Account}
 use Rattle.desk.specs.State.Account.{none, metered, billed}
 use Rattle.desk.specs.Outcome.{Outcome, by_account}

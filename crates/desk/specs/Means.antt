@@ -20,8 +20,8 @@ use Rattle.accounts.specs.Means.{fewest}
 use Rattle.desk.specs.declared.steps.Desk.{Desk}
 use Rattle.desk.specs.declared.steps.StepFault.{StepFault}
 use Rattle.desk.specs.declared.steps.StepFault.TheVariants.{Refused, NoMemory}
-use Rattle.desk.specs.declared.accounts.Opened.{Opened}
-use Rattle.desk.specs.declared.accounts.Opened.TheVariants as opened
+use Rattle.desk.specs.declared.account_calls.Opened.{Opened}
+use Rattle.desk.specs.declared.account_calls.Opened.TheVariants as opened
 use Rattle.desk.specs.declared.book.OpenBook.{OpenBook}
 use Rattle.settlement.specs.declared.answers.Line.{Line}
 use Rattle.settlement.specs.Metering.{MeterAccount}

@@ -16,7 +16,7 @@ ghost use Rattle.records.specs.Records.Rec.{gives_hour_prices};
 ghost use Rattle.desk.specs.State.{Memory, State, outset};
 ghost use Rattle.desk.specs.Means.{Came, Means, Took, answered_of, lines_written, memory_of, nothing_said, has_account, told_of};
 
-use crate::accounts::{Opened, enter, month_of, open_billing, open_metering, settle, turn};
+use crate::account_calls::{Opened, enter, month_of, open_billing, open_metering, settle, turn};
 use crate::book::{Incomplete, OpenBook};
 use crate::books::{open_book, read_hour, set_hour_prices, set_month_price};
 use accounts::{Billing, Metering};

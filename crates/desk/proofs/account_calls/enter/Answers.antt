@@ -3,7 +3,7 @@ use Rattle.accounts.specs.Billed.{billed}
 use Rattle.accounts.specs.Metered.{metered}
 use Rattle.desk.specs.Accounts.{sums_entered}
 use Rattle.desk.proofs.Calls.{on_metering, on_billing}
-use Rattle.desk.proofs.accounts.enter.Goals as goal
+use Rattle.desk.proofs.account_calls.enter.Goals as goal
 
 pub returns-in-Metering : goal.returns-in-Metering
 returns-in-Metering c =

@@ -5,7 +5,7 @@ use Rattle.accounts.specs.Metered.{meter_opening}
 use Rattle.desk.specs.Accounts.{metering_opened}
 use Rattle.desk.specs.Means.{nothing_said}
 use Rattle.desk.proofs.Calls.{refused_some, refused_came, on_neither, opened_fewest}
-use Rattle.desk.proofs.accounts.open_metering.Goals as goal
+use Rattle.desk.proofs.account_calls.open_metering.Goals as goal
 
 pub returns-in_err-open-in-Neither : goal.returns-in_err-open-in-Neither
 returns-in_err-open-in-Neither c =

@@ -4,7 +4,7 @@ use Rattle.desk.specs.State.Account.{metered, billed}
 use Rattle.desk.specs.Accounts.{account_turned}
 use Rattle.desk.specs.Means.{said_with}
 use Rattle.desk.proofs.Calls.{refused_some, refused_came, stays, on_metering, on_billing, same_fewest}
-use Rattle.desk.proofs.accounts.turn.Goals as goal
+use Rattle.desk.proofs.account_calls.turn.Goals as goal
 
 pub returns-in_err-refunded-in-Metering : goal.returns-in_err-refunded-in-Metering
 returns-in_err-refunded-in-Metering c =

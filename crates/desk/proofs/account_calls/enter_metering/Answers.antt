@@ -1,7 +1,7 @@
 use Rattle.std.proofs.Common.{refl, ap}
 use Rattle.desk.specs.State.Account.{metered}
 use Rattle.desk.proofs.Calls.{back_some, refused_came, stays, same_fewest}
-use Rattle.desk.proofs.accounts.enter_metering.Goals as goal
+use Rattle.desk.proofs.account_calls.enter_metering.Goals as goal
 
 pub returns-in-Err : goal.returns-in-Err
 returns-in-Err c =

@@ -6,7 +6,7 @@ use Rattle.desk.specs.State.Account.{metered, billed}
 use Rattle.desk.specs.Accounts.{account_settled}
 use Rattle.desk.specs.Means.{said_with}
 use Rattle.desk.proofs.Calls.{accepted_none, refused_some, accepted_came, refused_came, changes, stays, on_metering, on_billing, same_fewest, first_lines, other_lines, same_settled, same_paid}
-use Rattle.desk.proofs.accounts.settle.Goals as goal
+use Rattle.desk.proofs.account_calls.settle.Goals as goal
 
 pub returns-in_err-settlement-in-Metering : goal.returns-in_err-settlement-in-Metering
 returns-in_err-settlement-in-Metering c =
