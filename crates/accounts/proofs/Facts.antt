@@ -5,7 +5,7 @@ use Rattle.portions.specs.Portions.{Portion}
 use Rattle.portions.specs.Slots.{reads, plain}
 use Rattle.portions.specs.declared.Kind.{Ghosts}
 use Rattle.ledger.specs.Ledger.{Ledger, has}
-use Rattle.ledger.specs.Steps.{stays-in, refunds, losses, turning}
+use Rattle.ledger.specs.Steps.{stays_in, refunds, losses, turning}
 use Rattle.shelf.specs.declared.Shelf.{Shelf}
 use Rattle.shelf.specs.Held.{held, lent, in_use}
 use Rattle.shelf.specs.Reading.{kind_of, ledger_of}
@@ -47,7 +47,7 @@ module _ {K T : Type 0} (k : Ghosts K T) (s : Shelf K T) (sound : Sound s) where
   module _ (s' : Shelf K T) (sound' : Sound s') (is : ledger_of k s' ≡ turning (kind_of k) (ledger_of k s)) where
     -- a store that has turned has no portion of its month
     pub turned_free : FreeIn (ledger_of k s')
-    turned_free = subst (λ (l : Ledger T). FreeIn l) (sym is) (has_kept (s.month + 1) (stays-in k.life (s.month + 1)) (ledger_of k s).portions none_next)
+    turned_free = subst (λ (l : Ledger T). FreeIn l) (sym is) (has_kept (s.month + 1) (stays_in k.life (s.month + 1)) (ledger_of k s).portions none_next)
 
     -- and what the turn ended is little
     pub turned_small : refunds (kind_of k) (ledger_of k s) + losses (kind_of k) (ledger_of k s) ≤ 120000000000

@@ -28,21 +28,21 @@ pub opened_meter : (o : MeterOpening) (c : ℕ) (period : Period) (stores : Ledg
 opened_meter o c period stores e f g = cc
 
 module _ (a : MeterAccount) (next : MonthState) (stores : Ledgers) (is_open : a.opened ≡ true) where
-  abbrev with-stores : Zones ℕ → Ledgers → MeterAccount
-  with-stores pending s = account a.opened a.coefficient a.period next pending s
+  abbrev with_stores : Zones ℕ → Ledgers → MeterAccount
+  with_stores pending s = account a.opened a.coefficient a.period next pending s
 
   pub entered_meter : (sums : MonthSums) (exports imports pending : Zones ℕ) → next ≡ Entered → exports ≡ split_by_zone sums.totals.export → imports ≡ split_by_zone sums.totals.import → pending ≡ each_two ◌+◌ a.pending imports →
-      stores ≡ each_two (λ amount store. entering amount tt store) exports a.stores → with-stores pending stores ≡ entering_meter sums a
+      stores ≡ each_two (λ amount store. entering amount tt store) exports a.stores → with_stores pending stores ≡ entering_meter sums a
   entered_meter sums exports imports pending n x i p s =
       let p' = p ∙ ap (each_two ◌+◌ a.pending) i in
       let s' = s ∙ ap (λ e. each_two (λ amount store. entering amount tt store) e a.stores) x in
-      ap (λ q. with-stores q stores) p' ∙ ap (with-stores (entering_meter sums a).pending) s'
+      ap (λ q. with_stores q stores) p' ∙ ap (with_stores (entering_meter sums a).pending) s'
       ∙ ap (λ n'. account a.opened a.coefficient a.period n' (entering_meter sums a).pending (entering_meter sums a).stores) n
       ∙ ap (λ b. account b a.coefficient a.period Entered (entering_meter sums a).pending (entering_meter sums a).stores) is_open
 
-  pub turned_meter : next ≡ Waiting → stores ≡ each (turning energy) a.stores → with-stores a.pending stores ≡ turning_meter a
+  pub turned_meter : next ≡ Waiting → stores ≡ each (turning energy) a.stores → with_stores a.pending stores ≡ turning_meter a
   turned_meter n s =
-      ap (with-stores a.pending) s
+      ap (with_stores a.pending) s
       ∙ ap (λ n'. account a.opened a.coefficient a.period n' a.pending (turning_meter a).stores) n
       ∙ ap (λ b. account b a.coefficient a.period Waiting a.pending (turning_meter a).stores) is_open
 

@@ -16,8 +16,8 @@ use Rattle.settlement.specs.Standing.{enter_refusal, settle_refusal, turn_refusa
 use Rattle.settlement.specs.Answers.{answers, becomes}
 use Rattle.settlement.specs.Accounts.{Workings, refusal}
 use Rattle.settlement.specs.Accounts.Call.{enter, settle, turn}
-use Rattle.settlement.specs.Steps.{hands_back, open-answer, open_after, enter-answer, enter-after, settle-answer, settle-after, settle-lines, turn-answer, turn-after}
-use Rattle.settlement.specs.History.{enter-event, settle-event, turn-event}
+use Rattle.settlement.specs.Steps.{hands_back, open_answer, open_after, enter_answer, enter_after, settle_answer, settle_after, settle_lines, turn_answer, turn_after}
+use Rattle.settlement.specs.History.{enter_event, settle_event, turn_event}
 use Rattle.settlement.specs.Promises.{KeepsPromise, Keeps, OpenKeeps}
 use Rattle.settlement.proofs.Tables.{asked, or_else_none, enter_waits}
 use Rattle.settlement.proofs.Keeps.{keeps_open, keeps_enter, keeps_settle, keeps_turn}
@@ -62,11 +62,11 @@ pair_is p x y e f = ap (λ n. (n, p.1)) e ∙ ap (λ n. (x, n)) f
 module _ {O A S Z T : Type 0} (works : Workings O A S Z T) (law : KeepsPromise works) (a : A) where
   -- an opening
   pub record Opens (o : O) (r : Result (Unit {0}) AccountFault) (a' : A) : Type 0 where
-    pub answer : r ≡ open-answer works o a
+    pub answer : r ≡ open_answer works o a
     pub state : a' ≡ open_after works o a
     pub promised : OpenKeeps works a o r a'
 
-  opens : (o : O) (r : Result (Unit {0}) AccountFault) (a' : A) → r ≡ open-answer works o a → a' ≡ open_after works o a → Opens o r a'
+  opens : (o : O) (r : Result (Unit {0}) AccountFault) (a' : A) → r ≡ open_answer works o a → a' ≡ open_after works o a → Opens o r a'
   opens o r a' answer state = record { answer = answer; state = state; promised = keeps_open works law a a' o r answer state }
 
   module _ {V : Type 0} (o : O) (v : V) where
@@ -82,9 +82,9 @@ module _ {O A S Z T : Type 0} (works : Workings O A S Z T) (law : KeepsPromise w
 
   -- an enter
   pub record Enters (sums : MonthSums) (r : Result (Unit {0}) Returned) (a' : A) : Type 0 where
-    pub answer : r ≡ enter-answer works sums a
-    pub state : a' ≡ enter-after works sums a
-    pub promised : Keeps works a (enter-event sums r) a'
+    pub answer : r ≡ enter_answer works sums a
+    pub state : a' ≡ enter_after works sums a
+    pub promised : Keeps works a (enter_event sums r) a'
 
   -- what an accepted enter met, and the state that it leads to
   pub record EnterMet (next : MonthState) : Type 0 where
@@ -119,10 +119,10 @@ module _ {O A S Z T : Type 0} (works : Workings O A S Z T) (law : KeepsPromise w
 
   -- a settlement, of the caller's lines d
   pub record Settles (rule : Rule) (d : List Line) (r : Result S AccountFault) (a' : A) (d' : List Line) : Type 0 where
-    pub answer : r ≡ settle-answer works rule (length d) a
-    pub state : a' ≡ settle-after works rule (length d) a
-    pub lines : d' ≡ settle-lines works rule a d
-    pub promised : Keeps works a (settle-event rule (length d) r) a'
+    pub answer : r ≡ settle_answer works rule (length d) a
+    pub state : a' ≡ settle_after works rule (length d) a
+    pub lines : d' ≡ settle_lines works rule a d
+    pub promised : Keeps works a (settle_event rule (length d) r) a'
 
   -- what an accepted settlement met, and the state that it leads to
   pub record SettleMet (lines : ℕ) (next : MonthState) : Type 0 where
@@ -161,9 +161,9 @@ module _ {O A S Z T : Type 0} (works : Workings O A S Z T) (law : KeepsPromise w
 
   -- a turn
   pub record Turns (r : Result (ℕ × ℕ) AccountFault) (a' : A) : Type 0 where
-    pub answer : r ≡ turn-answer works a
-    pub state : a' ≡ turn-after works a
-    pub promised : Keeps works a (turn-event r) a'
+    pub answer : r ≡ turn_answer works a
+    pub state : a' ≡ turn_after works a
+    pub promised : Keeps works a (turn_event r) a'
 
   module _ (s : Standing) (at : s ≡ works.standing a) where
     pub turn_refused : (fault : AccountFault) → Err fault ≡ answers (turn_refusal s) Waiting → (r : Result (ℕ × ℕ) AccountFault) → IsErrAnd r (λ y. y ≡ fault) → Turns r a

@@ -37,29 +37,29 @@ by_answer b s i e (Err x) (Some f) y ef er h = let q : Some f ≡ Some x = cc in
 
 module _ (b : OpenBook) (s : BookState) (holds : Holds b s) where
   -- the price that the book's sources give for the next hour
-  abbrev pub price-given : Option ℤ
-  price-given = or_else (hours_give (hours_are b.prices.upper) b.book.terms.month.number b.book.tally.hours) (monthly_gives (month_is b.prices.lower) b.book.terms.month.number b.book.tally.hours)
+  abbrev pub price_given : Option ℤ
+  price_given = or_else (hours_give (hours_are b.prices.upper) b.book.terms.month.number b.book.tally.hours) (monthly_gives (month_is b.prices.lower) b.book.terms.month.number b.book.tally.hours)
 
-  price_is : price-given ≡ price_at s (length s.hours)
+  price_is : price_given ≡ price_at s (length s.hours)
   price_is =
       ap (λ m. or_else (hours_give (hours_are b.prices.upper) m b.book.tally.hours) (monthly_gives (month_is b.prices.lower) m b.book.tally.hours)) holds.month
       ∙ ap (λ p. or_else (hours_give (hours_are b.prices.upper) s.month p) (monthly_gives (month_is b.prices.lower) s.month p)) holds.read.hours
       ∙ ap (λ g. or_else g (monthly_gives (month_is b.prices.lower) s.month (length s.hours))) (holds.hourly (length s.hours))
       ∙ ap (λ g. or_else (hourly_at s.hourly (length s.hours)) g) (holds.monthly (length s.hours))
 
-  refusal_is : (i e : ℕ) → read_refusal (month_hours b.book.terms.month.number) b.book.tally.hours i e price-given ≡ hour_refusal i e s
+  refusal_is : (i e : ℕ) → read_refusal (month_hours b.book.terms.month.number) b.book.tally.hours i e price_given ≡ hour_refusal i e s
   refusal_is i e =
-      ap (λ m. read_refusal (month_hours m) b.book.tally.hours i e price-given) holds.month
-      ∙ ap (λ p. read_refusal (month_hours s.month) p i e price-given) holds.read.hours
+      ap (λ m. read_refusal (month_hours m) b.book.tally.hours i e price_given) holds.month
+      ∙ ap (λ p. read_refusal (month_hours s.month) p i e price_given) holds.read.hours
       ∙ ap (λ g. read_refusal (month_hours s.month) (length s.hours) i e g) price_is
 
   -- a book that has read the next hour, or was refused it
-  pub read_holds : (b' : OpenBook) (i e : ℕ) (r : Result (Unit {0}) BookFault) → r ≡ answer (reading b.book.terms b.book.tally i e price-given) →
+  pub read_holds : (b' : OpenBook) (i e : ℕ) (r : Result (Unit {0}) BookFault) → r ≡ answer (reading b.book.terms b.book.tally i e price_given) →
       b'.month ≡ b.month → b'.book.terms ≡ b.book.terms →
-      ((hs : List HourRead) → HasRead b.book.terms hs b.book.tally → HasRead b.book.terms (noted hs (record { import = i; export = e; price = price-given }) r) b'.book.tally) →
+      ((hs : List HourRead) → HasRead b.book.terms hs b.book.tally → HasRead b.book.terms (noted hs (record { import = i; export = e; price = price_given }) r) b'.book.tally) →
       (hours_are b'.prices.upper ≡ hours_are b.prices.upper) × (month_is b'.prices.lower ≡ month_is b.prices.lower) → HoldsAfter (hour_refusal i e s) s (with_next_hour i e s) r b'
   read_holds b' i e r er em et read kept =
-      by_answer b' s i e r (hour_refusal i e s) (joined b.book.terms b.book.tally i e price-given) refl (er ∙ ap (λ f. answer (unless f (joined b.book.terms b.book.tally i e price-given))) (refusal_is i e))
+      by_answer b' s i e r (hour_refusal i e s) (joined b.book.terms b.book.tally i e price_given) refl (er ∙ ap (λ f. answer (unless f (joined b.book.terms b.book.tally i e price_given))) (refusal_is i e))
       (record {
         dated = em ∙ holds.dated;
         month = ap (λ (t : Terms). t.month.number) et ∙ holds.month;

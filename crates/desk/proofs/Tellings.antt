@@ -16,24 +16,24 @@ use Rattle.desk.specs.Steps.{taken, on_account}
 use Rattle.desk.specs.Means.{AccountCame, BookHolds, Came, Means, Took, account_of, answered_of, lines_written, nothing_said, said_with, told_of}
 
 module _ (memory : Memory) (s : State) (lines : List Line) (Stands : State → Type 0) where
-  told : (said-by : Rec) (r : Result (Unit {0}) ProgramFault) → Came (taken memory s said-by) (nothing_said r) Stands → Took memory s said-by (told_of r) lines Stands
-  told said-by (Ok tt) came = came
-  told said-by (Err fault) came = came
+  told : (said_by : Rec) (r : Result (Unit {0}) ProgramFault) → Came (taken memory s said_by) (nothing_said r) Stands → Took memory s said_by (told_of r) lines Stands
+  told said_by (Ok tt) came = came
+  told said_by (Err fault) came = came
 
-  answered : (said-by : Rec) (r : Result Answer ProgramFault) → Came (taken memory s said-by) (said_with lines r) Stands → Took memory s said-by (answered_of r) lines Stands
-  answered said-by (Ok answer) came = came
-  answered said-by (Err fault) came = came
+  answered : (said_by : Rec) (r : Result Answer ProgramFault) → Came (taken memory s said_by) (said_with lines r) Stands → Took memory s said_by (answered_of r) lines Stands
+  answered said_by (Ok answer) came = came
+  answered said_by (Err fault) came = came
 
   -- a call that is only accepted or refused
-  pub told_took : (said-by is : Rec) (r : Result (Unit {0}) ProgramFault) (out : Result Answer StepFault) → said-by ≡ is → out ≡ told_of r → Came (taken memory s is) (nothing_said r) Stands →
-      Took memory s said-by out lines Stands
-  told_took said-by is r out e eo came =
+  pub told_took : (said_by is : Rec) (r : Result (Unit {0}) ProgramFault) (out : Result Answer StepFault) → said_by ≡ is → out ≡ told_of r → Came (taken memory s is) (nothing_said r) Stands →
+      Took memory s said_by out lines Stands
+  told_took said_by is r out e eo came =
       subst (λ (rec : Rec). Took memory s rec out lines Stands) (sym e) (subst (λ (o : Result Answer StepFault). Took memory s is o lines Stands) (sym eo) (told is r came))
 
   -- a call that has an answer
-  pub answered_took : (said-by is : Rec) (r : Result Answer ProgramFault) (out : Result Answer StepFault) → said-by ≡ is → out ≡ answered_of r → Came (taken memory s is) (said_with lines r) Stands →
-      Took memory s said-by out lines Stands
-  answered_took said-by is r out e eo came =
+  pub answered_took : (said_by is : Rec) (r : Result Answer ProgramFault) (out : Result Answer StepFault) → said_by ≡ is → out ≡ answered_of r → Came (taken memory s is) (said_with lines r) Stands →
+      Took memory s said_by out lines Stands
+  answered_took said_by is r out e eo came =
       subst (λ (rec : Rec). Took memory s rec out lines Stands) (sym e) (subst (λ (o : Result Answer StepFault). Took memory s is o lines Stands) (sym eo) (answered is r came))
 
 -- a call on the account, from where the desk stood

@@ -162,6 +162,6 @@ BringsPrices turn = ⊥
 
 -- a step took the record as it is defined; memory can be wanting only for a list of prices, and then nothing differs
 abbrev pub Took : Memory → State → Rec → Result Answer StepFault → List Line → (State → Type 0) → Type 0
-Took memory s said-by (Ok answer) lines Stands = Came (taken memory s said-by) (Ok (said answer lines)) Stands
-Took memory s said-by (Err (Refused fault)) lines Stands = Came (taken memory s said-by) (Err fault) Stands
-Took memory s said-by (Err NoMemory) lines Stands = BringsPrices said-by × Stands s
+Took memory s said_by (Ok answer) lines Stands = Came (taken memory s said_by) (Ok (said answer lines)) Stands
+Took memory s said_by (Err (Refused fault)) lines Stands = Came (taken memory s said_by) (Err fault) Stands
+Took memory s said_by (Err NoMemory) lines Stands = BringsPrices said_by × Stands s

@@ -27,6 +27,6 @@ module _ {X : Type 0} where
   by_account None old said new = accepted said new
 
   -- the same of a book, which says nothing
-  abbrev pub by-book : Option BookFault → X → X → Outcome X
-  by-book (Some fault) old new = refused (InBook fault) old
-  by-book None old new = accepted nothing new
+  abbrev pub by_book : Option BookFault → X → X → Outcome X
+  by_book (Some fault) old new = refused (InBook fault) old
+  by_book None old new = accepted nothing new

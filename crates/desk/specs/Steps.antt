@@ -10,7 +10,7 @@ use Rattle.settlement.specs.Billing.{BillOpening}
 use Rattle.records.specs.Records.{Rec}
 use Rattle.records.specs.Records.Rec.{opens_metering, opens_billing, opens_book, gives_month_price, gives_hour_prices, reading, finish, settle, turn}
 use Rattle.desk.specs.State.{Account, BookState, State, Memory}
-use Rattle.desk.specs.Outcome.{Outcome, refused, by-book}
+use Rattle.desk.specs.Outcome.{Outcome, refused, by_book}
 use Rattle.desk.specs.Accounts.{own_month, metering_opened, billing_opened, sums_entered, account_settled, account_turned}
 use Rattle.desk.specs.Books.{begun, price_in_range, each_in_range, price_refusal, with_monthly, with_hourly, with_next_hour, hour_refusal, finish_refusal, book_sums}
 
@@ -33,12 +33,12 @@ on_book account o = record { answer = o.answer; after = record { account = accou
 -- a book is opened for a month, where none is open
 abbrev pub book_opened : List (List ℕ) → List ℕ → ℕ → Option BookState → Outcome (Option BookState)
 book_opened marks sale month (Some b) = refused OutOfPlace (Some b)
-book_opened marks sale month None = by-book (book_open_refusal month marks sale) None (Some (begun month marks sale))
+book_opened marks sale month None = by_book (book_open_refusal month marks sale) None (Some (begun month marks sale))
 
 -- the open book is refused something, or becomes another
 abbrev pub change : (BookState → Option BookFault) → (BookState → BookState) → ℕ → Option BookState → Outcome (Option BookState)
 change refusal becomes month None = refused OutOfPlace None
-change refusal becomes month (Some b) = by-book (refusal b) (Some b) (Some (becomes b))
+change refusal becomes month (Some b) = by_book (refusal b) (Some b) (Some (becomes b))
 
 -- what is done to the book where an account is open, from the account's month
 abbrev pub with_account : (ℕ → Option BookState → Outcome (Option BookState)) → Option ℕ → Option BookState → Outcome (Option BookState)

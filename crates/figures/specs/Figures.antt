@@ -4,7 +4,7 @@ use Rattle.calendar.specs.Hour.{month_hours}
 use Rattle.hours.specs.Month.{HourRead, sum_over, taken_in, given_in}
 use Rattle.portions.specs.Portions.{Portion, fresh}
 use Rattle.portions.specs.Taking.{oldest, proportional}
-use Rattle.ledger.specs.Steps.{ends_by, stays-in}
+use Rattle.ledger.specs.Steps.{ends_by, stays_in}
 use Rattle.settlement.specs.Figures as settlement
 
 -- an hour's import and export in Wh, with no price
@@ -43,6 +43,6 @@ pub record Figures : Type 0 where
   -- oldest first, all that the invoice's portions hold
   pub invoice_emptied : oldest invoice 2461000 ≡ invoice
   -- with a life of 12 months, open in month 87 and ended in month 88
-  pub open_in_87 : stays-in 12 87 of_month_75 ≡ true
+  pub open_in_87 : stays_in 12 87 of_month_75 ≡ true
   pub ended_in_88 : ends_by 12 88 of_month_75 ≡ true
   pub settlements : settlement.Figures

@@ -4,7 +4,7 @@ use Rattle.std.proofs.lemmas.Bool.{leb-true, ltb-true}
 use Rattle.faults.specs.declared.StoreFault.{StoreFault}
 use Rattle.ledger.specs.Kinds.{Kind}
 use Rattle.ledger.specs.Ledger.{Ledger, has}
-use Rattle.ledger.specs.Calls.{asks, open_refusal, enter_refusal, draw-refusal, turn_refusal}
+use Rattle.ledger.specs.Calls.{asks, open_refusal, enter_refusal, draw_refusal, turn_refusal}
 
 -- an accepted call met all that it was asked
 pub asked : (b : Bool) (e : StoreFault) (o : Option StoreFault) → asks b e o ≡ None → (b ≡ true) × (o ≡ None)
@@ -64,7 +64,7 @@ module _ {T : Type 0} where
       let b = asked (leb amount 100000000) _ _ a.1 in
       record { is_open = a.0; small = leb-true amount 100000000 b.0; free = not_has (has s.month s.portions) (asked (not (has s.month s.portions)) _ None b.1).0 }
 
-  pub draw_met : (wanted : ℕ) (s : Ledger T) → draw-refusal wanted s ≡ None → DrawMet wanted s
+  pub draw_met : (wanted : ℕ) (s : Ledger T) → draw_refusal wanted s ≡ None → DrawMet wanted s
   draw_met wanted s e =
       let a = asked s.opened _ _ e in
       record { is_open = a.0; small = leb-true wanted 1000000000 (asked (leb wanted 1000000000) _ None a.1).0 }

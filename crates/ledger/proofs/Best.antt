@@ -9,15 +9,15 @@ use Rattle.portions.specs.Totals.{total-++, total_parts}
 use Rattle.ledger.specs.Kinds.{Kind, LawfulKind}
 use Rattle.ledger.specs.Rules.{Rule}
 use Rattle.ledger.specs.Ledger.{Ledger, left_in, lefts}
-use Rattle.ledger.specs.Steps.{taking, stays-in}
+use Rattle.ledger.specs.Steps.{taking, stays_in}
 use Rattle.ledger.specs.History.{History, Had, reached}
 use Rattle.ledger.specs.History.Event.{entered, drew, turned, refused}
 use Rattle.ledger.specs.Totals.{Entered, Used, received}
 use Rattle.ledger.specs.Told.{RisingFrom}
-use Rattle.ledger.specs.Ways.{Way, over_months, taken, way-used, FairDraw, Fair, remains, way-run-out, way-left-from}
+use Rattle.ledger.specs.Ways.{Way, over_months, taken, way_used, FairDraw, Fair, remains, way_run_out, way_left_from}
 use Rattle.ledger.specs.Best.{WentOldestFirst, NoBetter}
-use Rattle.ledger.specs.Service.{left-from}
-use Rattle.ledger.proofs.Lists.{lefts-of, sum_lefts, UpTo, stays_gt}
+use Rattle.ledger.specs.Service.{left_from}
+use Rattle.ledger.proofs.Lists.{amounts_left_in, sum_lefts, UpTo, stays_gt}
 use Rattle.ledger.proofs.Store.{counts, sound}
 use Rattle.ledger.proofs.Sums.{sum_zero, sum_le, sum-+, sum_one}
 
@@ -27,7 +27,7 @@ module _ {T : Type 0} where
   abbrev left_below : ℕ → List (Portion T) → ℕ
   left_below m ps = total (λ (p : Portion T). cond (leb m p.month) 0 p.left) ps
 
-  below_and_from : (m : ℕ) (ps : List (Portion T)) → left_in ps ≡ left_below m ps + left-from m ps
+  below_and_from : (m : ℕ) (ps : List (Portion T)) → left_in ps ≡ left_below m ps + left_from m ps
   below_and_from m ps =
       total_parts (λ (p : Portion T). p.left) (λ (p : Portion T). cond (leb m p.month) 0 p.left) (λ (p : Portion T). cond (leb m p.month) p.left 0) (λ p. grind (arith, nat_tests)) ps
 
@@ -38,7 +38,7 @@ module _ {T : Type 0} where
       let here : cond (leb m p.month) 0 p.left ≡ 0 = grind (arith, nat_tests) in
       omega (arith, here, none_below m (p.month + 1) ps (omega arith) r.1)
 
-  none_from : (m n : ℕ) (ps : List (Portion T)) → n < m → UpTo n ps → left-from m ps ≡ 0
+  none_from : (m n : ℕ) (ps : List (Portion T)) → n < m → UpTo n ps → left_from m ps ≡ 0
   none_from m n [] lt u = refl
   none_from m n (p ∷ ps) lt u =
       let high : p.month < m = omega (arith, u.0) in
@@ -46,22 +46,22 @@ module _ {T : Type 0} where
       omega (arith, here, none_from m n ps lt u.1)
 
   -- oldest first takes from the portions of month m and later only what those before do not serve
-  oldest_from : (m b w : ℕ) (ps : List (Portion T)) → RisingFrom b ps → left-from m (taking (oldest (lefts-of ps) w) ps) ≡ left-from m ps - (w - left_below m ps)
+  oldest_from : (m b w : ℕ) (ps : List (Portion T)) → RisingFrom b ps → left_from m (taking (oldest (amounts_left_in ps) w) ps) ≡ left_from m ps - (w - left_below m ps)
   oldest_from m b w [] r = omega arith
   oldest_from m b w (p ∷ ps) r = go (leb m p.month) refl (oldest_from m (p.month + 1) (w - p.left) ps r.1)
     where
-      go : (t : Bool) → leb m p.month ≡ t → left-from m (taking (oldest (lefts-of ps) (w - p.left)) ps) ≡ left-from m ps - ((w - p.left) - left_below m ps) →
-          cond t (p.left - min w p.left) 0 + left-from m (taking (oldest (lefts-of ps) (w - p.left)) ps) ≡ (cond t p.left 0 + left-from m ps) - (w - (cond t 0 p.left + left_below m ps))
+      go : (t : Bool) → leb m p.month ≡ t → left_from m (taking (oldest (amounts_left_in ps) (w - p.left)) ps) ≡ left_from m ps - ((w - p.left) - left_below m ps) →
+          cond t (p.left - min w p.left) 0 + left_from m (taking (oldest (amounts_left_in ps) (w - p.left)) ps) ≡ (cond t p.left 0 + left_from m ps) - (w - (cond t 0 p.left + left_below m ps))
       go true e ih = omega (arith, ih, none_below m (p.month + 1) ps (omega (arith, leb-true m p.month e)) r.1)
       go false e ih = omega (arith, ih)
 
   -- what a turn keeps of the portions of month m and later
-  kept_from : (life m n : ℕ) (ps : List (Portion T)) → left-from (max m (n - life)) ps ≤ left-from m (filter (stays-in life n) ps)
+  kept_from : (life m n : ℕ) (ps : List (Portion T)) → left_from (max m (n - life)) ps ≤ left_from m (filter (stays_in life n) ps)
   kept_from life m n [] = omega arith
-  kept_from life m n (p ∷ ps) = go (stays-in life n p) refl (kept_from life m n ps)
+  kept_from life m n (p ∷ ps) = go (stays_in life n p) refl (kept_from life m n ps)
     where
-      go : (t : Bool) → stays-in life n p ≡ t → left-from (max m (n - life)) ps ≤ left-from m (filter (stays-in life n) ps) →
-          cond (leb (max m (n - life)) p.month) p.left 0 + left-from (max m (n - life)) ps ≤ left-from m (cond t (p ∷ filter (stays-in life n) ps) (filter (stays-in life n) ps))
+      go : (t : Bool) → stays_in life n p ≡ t → left_from (max m (n - life)) ps ≤ left_from m (filter (stays_in life n) ps) →
+          cond (leb (max m (n - life)) p.month) p.left 0 + left_from (max m (n - life)) ps ≤ left_from m (cond t (p ∷ filter (stays_in life n) ps) (filter (stays_in life n) ps))
       go true e ih =
           let here : cond (leb (max m (n - life)) p.month) p.left 0 ≤ cond (leb m p.month) p.left 0 = grind (arith, nat_tests) in
           omega (arith, here, ih)
@@ -73,14 +73,14 @@ module _ {T : Type 0} where
 -- The other way's side.
 module _ {T : Type 0} (kind : Kind T) (m₀ : ℕ) (way : Way) where
   -- with nothing received, nothing is left
-  way_left_none : (m : ℕ) → way-left-from kind m₀ way [] m ≤ 0
+  way_left_none : (m : ℕ) → way_left_from kind m₀ way [] m ≤ 0
   way_left_none m =
       let zeros = sum_zero 1200 in
       let le = sum_le 1200 (λ k. cond (leb m k && leb m₀ (k + kind.life)) 0 0) (λ k. 0) (λ k. grind (arith, nat_tests)) in
       omega (arith, zeros, le)
 
   way_left_entered : (m amount : ℕ) (terms : T) (h : History T) → reached m₀ h < 1200 →
-      way-left-from kind m₀ way (entered amount terms ∷ h) m ≤ way-left-from kind m₀ way h m + cond (leb m (reached m₀ h)) amount 0
+      way_left_from kind m₀ way (entered amount terms ∷ h) m ≤ way_left_from kind m₀ way h m + cond (leb m (reached m₀ h)) amount 0
   way_left_entered m amount terms h lt =
       let R : ℕ = reached m₀ h in
       let old : ℕ → ℕ = λ k. cond (leb m k && leb R (k + kind.life)) (remains m₀ way h k) 0 in
@@ -89,20 +89,20 @@ module _ {T : Type 0} (kind : Kind T) (m₀ : ℕ) (way : Way) where
       omega (arith, le, sum-+ 1200 old new, sum_one 1200 R (cond (leb m R) amount 0) lt)
 
   module _ (rule : Rule) (wanted answer : ℕ) (h : History T) where
-    abbrev way-left-drew : ℕ → ℕ
-    way-left-drew m = way-left-from kind m₀ way (drew rule wanted answer ∷ h) m
+    abbrev way_left_drew : ℕ → ℕ
+    way_left_drew m = way_left_from kind m₀ way (drew rule wanted answer ∷ h) m
 
-    drew_less : (m : ℕ) → way-left-drew m ≤ way-left-from kind m₀ way h m
+    drew_less : (m : ℕ) → way_left_drew m ≤ way_left_from kind m₀ way h m
     drew_less m =
         sum_le 1200 (λ k. cond (leb m k && leb (reached m₀ h) (k + kind.life)) (received m₀ h k - (taken way h k + way (length h) k)) 0)
         (λ k. cond (leb m k && leb (reached m₀ h) (k + kind.life)) (remains m₀ way h k) 0) (λ k. grind (arith, nat_tests))
 
-    drew_from : (m : ℕ) → way-left-drew m ≤ way-left-drew 0
+    drew_from : (m : ℕ) → way_left_drew m ≤ way_left_drew 0
     drew_from m =
         sum_le 1200 (λ k. cond (leb m k && leb (reached m₀ h) (k + kind.life)) (received m₀ h k - (taken way h k + way (length h) k)) 0)
         (λ k. cond (leb 0 k && leb (reached m₀ h) (k + kind.life)) (received m₀ h k - (taken way h k + way (length h) k)) 0) (λ k. grind (arith, nat_tests))
 
-    drew_all : FairDraw kind m₀ h wanted (taken way h) (way (length h)) → way-left-drew 0 + over_months (way (length h)) ≤ way-left-from kind m₀ way h 0
+    drew_all : FairDraw kind m₀ h wanted (taken way h) (way (length h)) → way_left_drew 0 + over_months (way (length h)) ≤ way_left_from kind m₀ way h 0
     drew_all fair =
         let after : ℕ → ℕ = λ k. cond (leb 0 k && leb (reached m₀ h) (k + kind.life)) (received m₀ h k - (taken way h k + way (length h) k)) 0 in
         let le = sum_le 1200 (λ k. after k + way (length h) k) (λ k. cond (leb 0 k && leb (reached m₀ h) (k + kind.life)) (remains m₀ way h k) 0)
@@ -112,31 +112,31 @@ module _ {T : Type 0} (kind : Kind T) (m₀ : ℕ) (way : Way) where
         grind (arith, nat_tests)) in
         omega (arith, le, sum-+ 1200 after (way (length h)))
 
-  way_left_turned : (m refunded lost : ℕ) (h : History T) → way-left-from kind m₀ way (turned refunded lost ∷ h) m ≤ way-left-from kind m₀ way h (max m (reached m₀ h + 1 - kind.life))
+  way_left_turned : (m refunded lost : ℕ) (h : History T) → way_left_from kind m₀ way (turned refunded lost ∷ h) m ≤ way_left_from kind m₀ way h (max m (reached m₀ h + 1 - kind.life))
   way_left_turned m refunded lost h =
       sum_le 1200 (λ k. cond (leb m k && leb (reached m₀ h + 1) (k + kind.life)) (remains m₀ way h k) 0)
       (λ k. cond (leb (max m (reached m₀ h + 1 - kind.life)) k && leb (reached m₀ h) (k + kind.life)) (remains m₀ way h k) 0) (λ k. grind (arith, nat_tests))
 
   younger : (h : History T) (s : Ledger T) → Had kind m₀ h s → WentOldestFirst kind m₀ h → Fair kind m₀ way h →
-      (m : ℕ) → way-used way h + way-left-from kind m₀ way h m ≤ Used h + left-from m s.portions
+      (m : ℕ) → way_used way h + way_left_from kind m₀ way h m ≤ Used h + left_from m s.portions
   younger [] s had went fair m = omega (arith, way_left_none m)
   younger (entered amount terms ∷ h) s had went fair m =
       let was = had.0 in
       let ih = younger h was had.1 went fair m in
       let ok = sound kind m₀ h was had.1 in
-      let way-more = way_left_entered m amount terms h (omega (arith, ok.month_is, ok.month_le)) in
+      let way_more = way_left_entered m amount terms h (omega (arith, ok.month_is, ok.month_le)) in
       let more = total-++ (λ (p : Portion T). cond (leb m p.month) p.left 0) was.portions (fresh was.month amount terms ∷ []) in
       let same = ap (λ (n : ℕ). cond (leb m n) amount 0) ok.month_is in
-      subst (λ (x : Ledger T). way-used way h + way-left-from kind m₀ way (entered amount terms ∷ h) m ≤ Used h + left-from m x.portions) (sym had.2.1)
-      (omega (arith, ih, way-more, more, same))
+      subst (λ (x : Ledger T). way_used way h + way_left_from kind m₀ way (entered amount terms ∷ h) m ≤ Used h + left_from m x.portions) (sym had.2.1)
+      (omega (arith, ih, way_more, more, same))
   younger (drew rule wanted answer ∷ h) s had went fair m =
       let was = had.0 in
       let ih = younger h was had.1 went.1 fair.1 in
       let ok = sound kind m₀ h was had.1 in
       let gave = went.0 was had.1 in
       let took = had.2.1 ∙ had.2.3.full was.month wanted (lefts was) in
-      let goal : List ℕ → Type 0 = λ xs. way-used way (drew rule wanted answer ∷ h) + way-left-drew rule wanted answer h m ≤ Used h + answer + left-from m (taking xs was.portions) in
-      subst (λ (x : Ledger T). way-used way (drew rule wanted answer ∷ h) + way-left-drew rule wanted answer h m ≤ Used h + answer + left-from m x.portions) (sym had.2.2)
+      let goal : List ℕ → Type 0 = λ xs. way_used way (drew rule wanted answer ∷ h) + way_left_drew rule wanted answer h m ≤ Used h + answer + left_from m (taking xs was.portions) in
+      subst (λ (x : Ledger T). way_used way (drew rule wanted answer ∷ h) + way_left_drew rule wanted answer h m ≤ Used h + answer + left_from m x.portions) (sym had.2.2)
       (subst goal (sym gave)
       (omega (
         arith,
@@ -158,11 +158,11 @@ module _ {T : Type 0} (kind : Kind T) (m₀ : ℕ) (way : Way) where
       let n : ℕ = max m (reached m₀ h + 1 - kind.life) in
       let ih = younger h was had.1 went fair n in
       let kept = kept_from kind.life m (was.month + 1) was.portions in
-      let same = ap (λ (j : ℕ). left-from (max m (j + 1 - kind.life)) was.portions) ok.month_is in
-      subst (λ (x : Ledger T). way-used way h + way-left-from kind m₀ way (turned refunded lost ∷ h) m ≤ Used h + left-from m x.portions) (sym had.2.3)
+      let same = ap (λ (j : ℕ). left_from (max m (j + 1 - kind.life)) was.portions) ok.month_is in
+      subst (λ (x : Ledger T). way_used way h + way_left_from kind m₀ way (turned refunded lost ∷ h) m ≤ Used h + left_from m x.portions) (sym had.2.3)
       (omega (arith, ih, kept, same, way_left_turned m refunded lost h))
   younger (refused call fault ∷ h) s had went fair m =
-      subst (λ (x : Ledger T). way-used way h + way-left-from kind m₀ way h m ≤ Used h + left-from m x.portions) (sym had.2.1) (younger h had.0 had.1 went fair m)
+      subst (λ (x : Ledger T). way_used way h + way_left_from kind m₀ way h m ≤ Used h + left_from m x.portions) (sym had.2.1) (younger h had.0 had.1 went fair m)
 
   -- what the portions of all months received is what was entered
   received_all : (h : History T) (s : Ledger T) → Had kind m₀ h s → Entered h ≤ over_months (received m₀ h)
@@ -177,14 +177,14 @@ module _ {T : Type 0} (kind : Kind T) (m₀ : ℕ) (way : Way) where
   received_all (refused call fault ∷ h) s had = received_all h had.0 had.1
 
   -- what a way took from the portions of all months is what it used
-  taken_all : (h : History T) → over_months (taken way h) ≤ way-used way h
+  taken_all : (h : History T) → over_months (taken way h) ≤ way_used way h
   taken_all [] = omega (arith, sum_zero 1200)
   taken_all (entered amount terms ∷ h) = taken_all h
   taken_all (drew rule wanted answer ∷ h) = omega (arith, taken_all h, sum-+ 1200 (taken way h) (way (length h)))
   taken_all (turned refunded lost ∷ h) = taken_all h
   taken_all (refused call fault ∷ h) = taken_all h
 
-  way_balance : (h : History T) (s : Ledger T) → Had kind m₀ h s → Entered h ≤ way-used way h + way-run-out kind m₀ way h + way-left-from kind m₀ way h 0
+  way_balance : (h : History T) (s : Ledger T) → Had kind m₀ h s → Entered h ≤ way_used way h + way_run_out kind m₀ way h + way_left_from kind m₀ way h 0
   way_balance h s had =
       let ended : ℕ → ℕ = λ k. cond (ltb (k + kind.life) (reached m₀ h)) (remains m₀ way h k) 0 in
       let open' : ℕ → ℕ = λ k. cond (leb 0 k && leb (reached m₀ h) (k + kind.life)) (remains m₀ way h k) 0 in

@@ -5,7 +5,7 @@ use Rattle.portions.specs.Sums.{sum}
 use Rattle.portions.specs.Portions.{Portion}
 use Rattle.ledger.specs.Rules.{Rule, LawfulRule}
 use Rattle.ledger.specs.Ledger.{left_in, has}
-use Rattle.ledger.specs.Steps.{taking, stays-in}
+use Rattle.ledger.specs.Steps.{taking, stays_in}
 use Rattle.ledger.specs.Told.{Tells, RisingFrom}
 use Rattle.ledger.proofs.Asked.{not_has, does_have}
 
@@ -40,14 +40,14 @@ pub within : {rule : Rule} → LawfulRule rule → (m : ℕ) (ls : List ℕ) (w 
 within {rule} law m ls w = within_each (rule m ls w) ls (law.sized m w ls) (law.bounded m w ls)
 
 module _ {T : Type 0} where
-  abbrev pub lefts-of : List (Portion T) → List ℕ
-  lefts-of ps = map (λ (p : Portion T). p.left) ps
+  abbrev pub amounts_left_in : List (Portion T) → List ℕ
+  amounts_left_in ps = map (λ (p : Portion T). p.left) ps
 
-  pub sum_lefts : (ps : List (Portion T)) → sum (lefts-of ps) ≡ left_in ps
+  pub sum_lefts : (ps : List (Portion T)) → sum (amounts_left_in ps) ≡ left_in ps
   sum_lefts [] = refl
   sum_lefts (p ∷ ps) = omega (arith, sum_lefts ps)
 
-  pub left_taking : (xs : List ℕ) (ps : List (Portion T)) → Within xs (lefts-of ps) → left_in (taking xs ps) + sum xs ≡ left_in ps
+  pub left_taking : (xs : List ℕ) (ps : List (Portion T)) → Within xs (amounts_left_in ps) → left_in (taking xs ps) + sum xs ≡ left_in ps
   left_taking [] [] w = omega arith
   left_taking [] (p ∷ ps) w = absurd w
   left_taking (x ∷ xs) [] w = absurd w
@@ -136,20 +136,20 @@ module _ {T : Type 0} where
     tells_taking_back (x ∷ xs) (p ∷ ps) (inl e) = inl e
     tells_taking_back (x ∷ xs) (p ∷ ps) (inr e) = inr (tells_taking_back xs ps e)
 
-    pub tells_kept : (n m : ℕ) → m ≤ k + n → (ps : List (Portion T)) → Tells ps k a t → Tells (filter (stays-in n m) ps) k a t
+    pub tells_kept : (n m : ℕ) → m ≤ k + n → (ps : List (Portion T)) → Tells ps k a t → Tells (filter (stays_in n m) ps) k a t
     tells_kept n m le [] e = absurd e
     tells_kept n m le (p ∷ ps) (inl e) =
-        let yes' : stays-in n m p ≡ true = le_stays (p.month + n) m (omega (arith, e.0, le)) in
-        subst (λ b. Tells (cond b (p ∷ filter (stays-in n m) ps) (filter (stays-in n m) ps)) k a t) (sym yes') (inl e)
+        let yes' : stays_in n m p ≡ true = le_stays (p.month + n) m (omega (arith, e.0, le)) in
+        subst (λ b. Tells (cond b (p ∷ filter (stays_in n m) ps) (filter (stays_in n m) ps)) k a t) (sym yes') (inl e)
     tells_kept n m le (p ∷ ps) (inr e) =
         let ih = tells_kept n m le ps e in
-        elim (stays-in n m p) as (λ b. Tells (cond b (p ∷ filter (stays-in n m) ps) (filter (stays-in n m) ps)) k a t) [ true ↦ inr ih | false ↦ ih ]
+        elim (stays_in n m p) as (λ b. Tells (cond b (p ∷ filter (stays_in n m) ps) (filter (stays_in n m) ps)) k a t) [ true ↦ inr ih | false ↦ ih ]
 
-    pub tells_kept_back : (n m : ℕ) (ps : List (Portion T)) → Tells (filter (stays-in n m) ps) k a t → Tells ps k a t × (m ≤ k + n)
+    pub tells_kept_back : (n m : ℕ) (ps : List (Portion T)) → Tells (filter (stays_in n m) ps) k a t → Tells ps k a t × (m ≤ k + n)
     tells_kept_back n m [] e = absurd e
-    tells_kept_back n m (p ∷ ps) e = go (λ x. tells_kept_back n m ps x) (stays-in n m p) refl e
+    tells_kept_back n m (p ∷ ps) e = go (λ x. tells_kept_back n m ps x) (stays_in n m p) refl e
       where
-        go : (Tells (filter (stays-in n m) ps) k a t → Tells ps k a t × (m ≤ k + n)) → (b : Bool) → stays-in n m p ≡ b → Tells (cond b (p ∷ filter (stays-in n m) ps) (filter (stays-in n m) ps)) k a t → Tells (p ∷ ps) k a t × (m ≤ k + n)
+        go : (Tells (filter (stays_in n m) ps) k a t → Tells ps k a t × (m ≤ k + n)) → (b : Bool) → stays_in n m p ≡ b → Tells (cond b (p ∷ filter (stays_in n m) ps) (filter (stays_in n m) ps)) k a t → Tells (p ∷ ps) k a t × (m ≤ k + n)
         go ih true b (inl x) = (inl x, omega (arith, stays_le (p.month + n) m b, x.0))
         go ih true b (inr x) = let r = ih x in (inr r.0, r.1)
         go ih false b x = let r = ih x in (inr r.0, r.1)

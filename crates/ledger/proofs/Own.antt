@@ -8,14 +8,14 @@ use Rattle.portions.specs.Totals.{total-++}
 use Rattle.ledger.specs.Kinds.{Kind, LawfulKind}
 use Rattle.ledger.specs.Rules.{Rule, LawfulRule}
 use Rattle.ledger.specs.Ledger.{Ledger, left_in, lefts}
-use Rattle.ledger.specs.Steps.{entering, taking, takings, drawing, stays-in, turning}
+use Rattle.ledger.specs.Steps.{entering, taking, takings, drawing, stays_in, turning}
 use Rattle.ledger.specs.History.{History, Had, reached}
 use Rattle.ledger.specs.History.Event.{entered, drew, turned, refused}
 use Rattle.ledger.specs.Totals.{Entered, Used, Refunded, Lost, received}
 use Rattle.ledger.specs.Told.{Tells}
-use Rattle.ledger.specs.Ways.{Way, over_months, taken, way-used, Fair, remains, way-run-out, way-left-from}
-use Rattle.ledger.specs.Service.{taken-from, Own, left-from, ServesFairly}
-use Rattle.ledger.proofs.Lists.{Within, within, lefts-of, UpTo, stays_le, stays_gt}
+use Rattle.ledger.specs.Ways.{Way, over_months, taken, way_used, Fair, remains, way_run_out, way_left_from}
+use Rattle.ledger.specs.Service.{taken_from, Own, left_from, ServesFairly}
+use Rattle.ledger.proofs.Lists.{Within, within, amounts_left_in, UpTo, stays_le, stays_gt}
 use Rattle.ledger.proofs.Store.{counts, sound, exact}
 use Rattle.ledger.proofs.Sums.{sum_zero, sum_same, sum-+, sum_one}
 
@@ -24,7 +24,7 @@ module _ {T : Type 0} where
   abbrev left_at : ℕ → List (Portion T) → ℕ
   left_at k ps = total (λ (p : Portion T). cond (eqb p.month k) p.left 0) ps
 
-  left_at_taking : (k : ℕ) (xs : List ℕ) (ps : List (Portion T)) → Within xs (lefts-of ps) → left_at k (taking xs ps) + taken-from k xs ps ≡ left_at k ps
+  left_at_taking : (k : ℕ) (xs : List ℕ) (ps : List (Portion T)) → Within xs (amounts_left_in ps) → left_at k (taking xs ps) + taken_from k xs ps ≡ left_at k ps
   left_at_taking k [] [] w = omega arith
   left_at_taking k [] (p ∷ ps) w = absurd w
   left_at_taking k (x ∷ xs) [] w = absurd w
@@ -33,12 +33,12 @@ module _ {T : Type 0} where
       let here : cond (eqb p.month k) (p.left - x) 0 + cond (eqb p.month k) x 0 ≡ cond (eqb p.month k) p.left 0 = grind (arith, nat_tests) in
       omega (arith, here, left_at_taking k xs ps w.1)
 
-  left_at_kept : (life k n : ℕ) (ps : List (Portion T)) → left_at k (filter (stays-in life n) ps) ≡ cond (leb n (k + life)) (left_at k ps) 0
+  left_at_kept : (life k n : ℕ) (ps : List (Portion T)) → left_at k (filter (stays_in life n) ps) ≡ cond (leb n (k + life)) (left_at k ps) 0
   left_at_kept life k n [] = grind (arith, nat_tests)
-  left_at_kept life k n (p ∷ ps) = go (stays-in life n p) refl (left_at_kept life k n ps)
+  left_at_kept life k n (p ∷ ps) = go (stays_in life n p) refl (left_at_kept life k n ps)
     where
-      go : (t : Bool) → stays-in life n p ≡ t → left_at k (filter (stays-in life n) ps) ≡ cond (leb n (k + life)) (left_at k ps) 0 →
-          left_at k (cond t (p ∷ filter (stays-in life n) ps) (filter (stays-in life n) ps)) ≡ cond (leb n (k + life)) (cond (eqb p.month k) p.left 0 + left_at k ps) 0
+      go : (t : Bool) → stays_in life n p ≡ t → left_at k (filter (stays_in life n) ps) ≡ cond (leb n (k + life)) (left_at k ps) 0 →
+          left_at k (cond t (p ∷ filter (stays_in life n) ps) (filter (stays_in life n) ps)) ≡ cond (leb n (k + life)) (cond (eqb p.month k) p.left 0 + left_at k ps) 0
       go true e ih =
           let in' : n ≤ p.month + life = stays_le (p.month + life) n e in
           let rest : ℕ = left_at k ps in
@@ -51,14 +51,14 @@ module _ {T : Type 0} where
           ih ∙ here
 
   -- over all months
-  sum_taken_from : (xs : List ℕ) (ps : List (Portion T)) → Within xs (lefts-of ps) → (n : ℕ) → n < 1200 → UpTo n ps → over_months (λ k. taken-from k xs ps) ≡ sum xs
+  sum_taken_from : (xs : List ℕ) (ps : List (Portion T)) → Within xs (amounts_left_in ps) → (n : ℕ) → n < 1200 → UpTo n ps → over_months (λ k. taken_from k xs ps) ≡ sum xs
   sum_taken_from [] [] w n lt u = sum_zero 1200
   sum_taken_from [] (p ∷ ps) w n lt u = absurd w
   sum_taken_from (x ∷ xs) [] w n lt u = absurd w
   sum_taken_from (x ∷ xs) (p ∷ ps) w n lt u =
-      omega (arith, sum-+ 1200 (λ k. cond (eqb p.month k) x 0) (λ k. taken-from k xs ps), sum_one 1200 p.month x (omega (arith, u.0)), sum_taken_from xs ps w.1 n lt u.1)
+      omega (arith, sum-+ 1200 (λ k. cond (eqb p.month k) x 0) (λ k. taken_from k xs ps), sum_one 1200 p.month x (omega (arith, u.0)), sum_taken_from xs ps w.1 n lt u.1)
 
-  sum_left_at : (m : ℕ) (ps : List (Portion T)) (n : ℕ) → n < 1200 → UpTo n ps → over_months (λ k. cond (leb m k) (left_at k ps) 0) ≡ left-from m ps
+  sum_left_at : (m : ℕ) (ps : List (Portion T)) (n : ℕ) → n < 1200 → UpTo n ps → over_months (λ k. cond (leb m k) (left_at k ps) 0) ≡ left_from m ps
   sum_left_at m [] n lt u = sum_same 1200 (λ k. cond (leb m k) 0 0) (λ k. 0) (λ k. grind (arith, nat_tests)) ∙ sum_zero 1200
   sum_left_at m (p ∷ ps) n lt u =
       let first : ℕ → ℕ = λ k. cond (eqb p.month k) (cond (leb m p.month) p.left 0) 0 in
@@ -68,12 +68,12 @@ module _ {T : Type 0} where
       omega (arith, each, sum-+ 1200 first others, sum_one 1200 p.month (cond (leb m p.month) p.left 0) (omega (arith, u.0)), sum_left_at m ps n lt u.1)
 
   -- takings come from portions that are told
-  from_told : (k : ℕ) (xs : List ℕ) (ps : List (Portion T)) → 0 < taken-from k xs ps → (a : ℕ) × (t : T) × Tells ps k a t
+  from_told : (k : ℕ) (xs : List ℕ) (ps : List (Portion T)) → 0 < taken_from k xs ps → (a : ℕ) × (t : T) × Tells ps k a t
   from_told k [] ps lt = absurd (omega arith)
   from_told k (x ∷ xs) [] lt = absurd (omega arith)
   from_told k (x ∷ xs) (p ∷ ps) lt = go (eqb p.month k) refl lt (λ l. from_told k xs ps l)
     where
-      go : (b : Bool) → eqb p.month k ≡ b → 0 < cond b x 0 + taken-from k xs ps → (0 < taken-from k xs ps → (a : ℕ) × (t : T) × Tells ps k a t) → (a : ℕ) × (t : T) × Tells (p ∷ ps) k a t
+      go : (b : Bool) → eqb p.month k ≡ b → 0 < cond b x 0 + taken_from k xs ps → (0 < taken_from k xs ps → (a : ℕ) × (t : T) × Tells ps k a t) → (a : ℕ) × (t : T) × Tells (p ∷ ps) k a t
       go true e l rest = (p.entered, p.terms, inl (eqb-true p.month k e, refl, refl))
       go false e l rest = let r = rest (omega arith) in (r.0, r.1, inr r.2)
 
@@ -105,13 +105,13 @@ module _ {T : Type 0} (kind : Kind T) (m₀ : ℕ) where
   own_exists (drew rule wanted answer ∷ h) s had =
       let ih = own_exists h had.0 had.1 in
       let was = had.0 in
-      let here : ℕ → ℕ = λ k. taken-from k (takings rule wanted was) was.portions in
+      let here : ℕ → ℕ = λ k. taken_from k (takings rule wanted was) was.portions in
       let way : Way = λ n k. cond (eqb n (length h)) (here k) (ih.0 n k) in (
         way,
         (
           (λ s' had' k.
               let at : cond (eqb (length h) (length h)) (here k) (ih.0 (length h) k) ≡ here k = grind (arith, nat_tests) in
-              at ∙ ap (λ (x : Ledger T). taken-from k (takings rule wanted x) x.portions) (had_same h was s' had.1 had')),
+              at ∙ ap (λ (x : Ledger T). taken_from k (takings rule wanted x) x.portions) (had_same h was s' had.1 had')),
           own_like ih.0 way h (λ n lt k. let z : ℕ = here k in let old : cond (eqb n (length h)) z (ih.0 n k) ≡ ih.0 n k = grind (arith, nat_tests) in old) ih.1,
         ),
       )
@@ -158,10 +158,10 @@ module _ {T : Type 0} (kind : Kind T) (m₀ : ℕ) where
         subst (λ x. Leaves (refused call fault ∷ h) x k) (sym had.2.1) (record { in_all = ih.in_all; open_left = ih.open_left })
 
     own_draw : (rule : Rule) → LawfulRule rule → (wanted : ℕ) (h : History T) (s : Ledger T) → Had kind m₀ h s → Own kind m₀ way h →
-        ((k : ℕ) → way (length h) k ≡ taken-from k (takings rule wanted s) s.portions) → over_months (way (length h)) ≡ sum (takings rule wanted s)
+        ((k : ℕ) → way (length h) k ≡ taken_from k (takings rule wanted s) s.portions) → over_months (way (length h)) ≡ sum (takings rule wanted s)
     own_draw rule lawful wanted h s had own gave =
         let ok = sound kind m₀ h s had in
-        sum_same 1200 (way (length h)) (λ k. taken-from k (takings rule wanted s) s.portions) gave
+        sum_same 1200 (way (length h)) (λ k. taken_from k (takings rule wanted s) s.portions) gave
         ∙ sum_taken_from (takings rule wanted s) s.portions (within lawful s.month (lefts s) wanted) s.month (omega (arith, ok.month_le)) ok.up_to
 
     own_fair : (h : History T) (s : Ledger T) → Had kind m₀ h s → Own kind m₀ way h → Fair kind m₀ way h
@@ -183,7 +183,7 @@ module _ {T : Type 0} (kind : Kind T) (m₀ : ℕ) where
     own_fair (turned refunded lost ∷ h) s had own = own_fair h had.0 had.1 own
     own_fair (refused call fault ∷ h) s had own = own_fair h had.0 had.1 own
 
-    own_used : (h : History T) (s : Ledger T) → Had kind m₀ h s → Own kind m₀ way h → way-used way h ≡ Used h
+    own_used : (h : History T) (s : Ledger T) → Had kind m₀ h s → Own kind m₀ way h → way_used way h ≡ Used h
     own_used [] s had own = refl
     own_used (entered amount terms ∷ h) s had own = own_used h had.0 had.1 own
     own_used (drew rule wanted answer ∷ h) s had own =
@@ -191,7 +191,7 @@ module _ {T : Type 0} (kind : Kind T) (m₀ : ℕ) where
     own_used (turned refunded lost ∷ h) s had own = own_used h had.0 had.1 own
     own_used (refused call fault ∷ h) s had own = own_used h had.0 had.1 own
 
-    own_left : (h : History T) (s : Ledger T) → Had kind m₀ h s → Own kind m₀ way h → (m : ℕ) → way-left-from kind m₀ way h m ≡ left-from m s.portions
+    own_left : (h : History T) (s : Ledger T) → Had kind m₀ h s → Own kind m₀ way h → (m : ℕ) → way_left_from kind m₀ way h m ≡ left_from m s.portions
     own_left h s had own m =
         let ok = sound kind m₀ h s had in
         sum_same 1200 (λ k. cond (leb m k && leb (reached m₀ h) (k + kind.life)) (remains m₀ way h k) 0) (λ k. cond (leb m k) (left_at k s.portions) 0)
@@ -213,14 +213,14 @@ module _ {T : Type 0} (kind : Kind T) (m₀ : ℕ) where
     received_sum (turned refunded lost ∷ h) s had = received_sum h had.0 had.1
     received_sum (refused call fault ∷ h) s had = received_sum h had.0 had.1
 
-    taken_sum : (h : History T) → over_months (taken way h) ≡ way-used way h
+    taken_sum : (h : History T) → over_months (taken way h) ≡ way_used way h
     taken_sum [] = sum_zero 1200
     taken_sum (entered amount terms ∷ h) = taken_sum h
     taken_sum (drew rule wanted answer ∷ h) = omega (arith, taken_sum h, sum-+ 1200 (taken way h) (way (length h)))
     taken_sum (turned refunded lost ∷ h) = taken_sum h
     taken_sum (refused call fault ∷ h) = taken_sum h
 
-    own_run_out : LawfulKind kind → (h : History T) (s : Ledger T) → Had kind m₀ h s → Own kind m₀ way h → way-run-out kind m₀ way h ≡ Refunded h + Lost h
+    own_run_out : LawfulKind kind → (h : History T) (s : Ledger T) → Had kind m₀ h s → Own kind m₀ way h → way_run_out kind m₀ way h ≡ Refunded h + Lost h
     own_run_out law h s had own =
         let ended : ℕ → ℕ = λ k. cond (ltb (k + kind.life) (reached m₀ h)) (remains m₀ way h k) 0 in
         let open' : ℕ → ℕ = λ k. cond (leb 0 k && leb (reached m₀ h) (k + kind.life)) (remains m₀ way h k) 0 in
@@ -244,7 +244,7 @@ module _ {T : Type 0} (kind : Kind T) (m₀ : ℕ) where
           c.balance,
         )
       where
-        all_from : (ps : List (Portion T)) → left-from 0 ps ≡ left_in ps
+        all_from : (ps : List (Portion T)) → left_from 0 ps ≡ left_in ps
         all_from [] = refl
         all_from (p ∷ ps) = let here : cond (leb 0 p.month) p.left 0 ≡ p.left = grind (arith, nat_tests) in omega (arith, here, all_from ps)
 

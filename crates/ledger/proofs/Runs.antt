@@ -10,12 +10,12 @@ use Rattle.ledger.specs.Calls.Call.{open_for, enter, draw, turn}
 use Rattle.ledger.specs.Steps.{entering, takings, drawing, refunds, losses, turning}
 use Rattle.ledger.specs.History.{Event, Does}
 use Rattle.ledger.specs.History.Event.{entered, drew, turned, refused}
-use Rattle.ledger.specs.Runs.{call-of, CallsHaveHistories, HistoriesDecide}
+use Rattle.ledger.specs.Runs.{call_of, CallsHaveHistories, HistoriesDecide}
 
 module _ {T : Type 0} (kind : Kind T) where
   -- a call on a store at s is one event, and the store is somewhere after it
   abbrev Next : Ledger T → Call T → Type 0
-  Next s call = (e : Event T) × (s' : Ledger T) × (call-of e ≡ call) × Does kind s e s'
+  Next s call = (e : Event T) × (s' : Ledger T) × (call_of e ≡ call) × Does kind s e s'
 
   next_enter : (s : Ledger T) (amount : ℕ) (terms : T) (o : Option StoreFault) → refusal kind (enter amount terms) s ≡ o → Next s (enter amount terms)
   next_enter s amount terms None e = (entered amount terms, entering amount terms s, refl, (e, refl))
@@ -35,15 +35,15 @@ module _ {T : Type 0} (kind : Kind T) where
   have_histories m₀ from to (enter amount terms ∷ calls) f =
       let before = have_histories m₀ from to calls f in
       let n = next_enter before.1 amount terms _ refl in
-      (n.0 ∷ before.0, n.1, ap (λ c. c ∷ map call-of before.0) n.2 ∙ ap (λ cs. enter amount terms ∷ cs) before.2, (before.1, before.3, n.3))
+      (n.0 ∷ before.0, n.1, ap (λ c. c ∷ map call_of before.0) n.2 ∙ ap (λ cs. enter amount terms ∷ cs) before.2, (before.1, before.3, n.3))
   have_histories m₀ from to (draw rule wanted ∷ calls) f =
       let before = have_histories m₀ from to calls f.1 in
       let n = next_draw before.1 rule f.0 wanted _ refl in
-      (n.0 ∷ before.0, n.1, ap (λ c. c ∷ map call-of before.0) n.2 ∙ ap (λ cs. draw rule wanted ∷ cs) before.2, (before.1, before.3, n.3))
+      (n.0 ∷ before.0, n.1, ap (λ c. c ∷ map call_of before.0) n.2 ∙ ap (λ cs. draw rule wanted ∷ cs) before.2, (before.1, before.3, n.3))
   have_histories m₀ from to (turn ∷ calls) f =
       let before = have_histories m₀ from to calls f in
       let n = next_turn before.1 _ refl in
-      (n.0 ∷ before.0, n.1, ap (λ c. c ∷ map call-of before.0) n.2 ∙ ap (λ cs. turn ∷ cs) before.2, (before.1, before.3, n.3))
+      (n.0 ∷ before.0, n.1, ap (λ c. c ∷ map call_of before.0) n.2 ∙ ap (λ cs. turn ∷ cs) before.2, (before.1, before.3, n.3))
 
   pub history_decides : HistoriesDecide kind
   history_decides m₀ [] s s' a b = a.2 ∙ sym b.2

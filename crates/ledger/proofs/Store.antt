@@ -4,7 +4,7 @@ use Rattle.portions.specs.Portions.{Portion, fresh}
 use Rattle.portions.specs.Totals.{total-++, total_split, total_parts}
 use Rattle.ledger.specs.Kinds.{Kind, LawfulKind, loss}
 use Rattle.ledger.specs.Ledger.{Ledger, left_in, lefts}
-use Rattle.ledger.specs.Steps.{takings, ends_by, stays-in, ending, refunds, losses, turning}
+use Rattle.ledger.specs.Steps.{takings, ends_by, stays_in, ending, refunds, losses, turning}
 use Rattle.ledger.specs.History.{History, Had, reached}
 use Rattle.ledger.specs.History.Event.{entered, drew, turned, refused}
 use Rattle.ledger.specs.Totals.{Entered, Used, Refunded, Lost, Balanced}
@@ -78,7 +78,7 @@ module _ {T : Type 0} (kind : Kind T) (m₀ : ℕ) where
       let ih = sound h was had.1 in
       let early = (turn_met was had.2.0).early in
       subst (Sound (turned refunded lost ∷ h)) (sym had.2.3)
-      (record { is_open = refl; month_is = omega (arith, ih.month_is); month_le = omega (arith, early); rising = rising_kept 0 (stays-in kind.life (was.month + 1)) was.portions ih.rising; up_to = upto_more was.month (was.month + 1) (omega arith) (filter (stays-in kind.life (was.month + 1)) was.portions) (upto_kept was.month (stays-in kind.life (was.month + 1)) was.portions ih.up_to) })
+      (record { is_open = refl; month_is = omega (arith, ih.month_is); month_le = omega (arith, early); rising = rising_kept 0 (stays_in kind.life (was.month + 1)) was.portions ih.rising; up_to = upto_more was.month (was.month + 1) (omega arith) (filter (stays_in kind.life (was.month + 1)) was.portions) (upto_kept was.month (stays_in kind.life (was.month + 1)) was.portions ih.up_to) })
   sound (refused call fault ∷ h) s had =
       let ih = sound h had.0 had.1 in
       subst (Sound (refused call fault ∷ h)) (sym had.2.1) (record { is_open = ih.is_open; month_is = ih.month_is; month_le = ih.month_le; rising = ih.rising; up_to = ih.up_to })

@@ -7,7 +7,7 @@ use Rattle.ledger.specs.Steps.{takings}
 use Rattle.ledger.specs.History.{History, Had}
 use Rattle.ledger.specs.History.Event.{entered, drew, turned, refused}
 use Rattle.ledger.specs.Totals.{Used, Refunded, Lost}
-use Rattle.ledger.specs.Ways.{Way, way-used, way-run-out}
+use Rattle.ledger.specs.Ways.{Way, way_used, way_run_out}
 
 -- every accepted draw went oldest first: where the store stood at s before it, its rule gave those takings
 abbrev pub WentOldestFirst : {T : Type 0} → Kind T → ℕ → History T → Type 0
@@ -20,5 +20,5 @@ WentOldestFirst kind m₀ (refused call fault ∷ h) = WentOldestFirst kind m₀
 
 -- another way has used at most as much as the store's answers say, and let at least as much run out
 pub record NoBetter {T : Type 0} (kind : Kind T) (m₀ : ℕ) (h : History T) (way : Way) : Type 0 where
-  pub used_at_most : way-used way h ≤ Used h
-  pub run_out_at_least : Refunded h + Lost h ≤ way-run-out kind m₀ way h
+  pub used_at_most : way_used way h ≤ Used h
+  pub run_out_at_least : Refunded h + Lost h ≤ way_run_out kind m₀ way h

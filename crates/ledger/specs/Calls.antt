@@ -27,8 +27,8 @@ module _ {T : Type 0} where
   enter_refusal amount s = asks s.opened NotOpen (asks (nat_le amount 100000000) AmountTooLarge (asks (not (has s.month s.portions)) MonthTaken None))
 
   -- a draw asks for an open store and an amount wanted of at most 1,000,000,000
-  abbrev pub draw-refusal : ℕ → Ledger T → Option StoreFault
-  draw-refusal wanted s = asks s.opened NotOpen (asks (nat_le wanted 1000000000) WantedTooLarge None)
+  abbrev pub draw_refusal : ℕ → Ledger T → Option StoreFault
+  draw_refusal wanted s = asks s.opened NotOpen (asks (nat_le wanted 1000000000) WantedTooLarge None)
 
   -- a turn asks for an open store and a month before 1,199
   abbrev pub turn_refusal : Ledger T → Option StoreFault
@@ -38,7 +38,7 @@ module _ {T : Type 0} where
   abbrev pub refusal : Kind T → Call T → Ledger T → Option StoreFault
   refusal kind (open_for slots month) s = open_refusal kind slots month
   refusal kind (enter amount terms) s = enter_refusal amount s
-  refusal kind (draw rule wanted) s = draw-refusal wanted s
+  refusal kind (draw rule wanted) s = draw_refusal wanted s
   refusal kind turn s = turn_refusal s
 
 -- the answer to a call that is refused by this fault, if by any, and otherwise answered with v

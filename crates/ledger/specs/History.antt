@@ -22,19 +22,19 @@ History T = List (Event T)
 
 module _ {T : Type 0} where
   -- an enter by its answer
-  abbrev pub enter-event : ℕ → T → Result (Unit {0}) StoreFault → Event T
-  enter-event amount terms (Ok _) = entered amount terms
-  enter-event amount terms (Err fault) = refused (enter amount terms) fault
+  abbrev pub enter_event : ℕ → T → Result (Unit {0}) StoreFault → Event T
+  enter_event amount terms (Ok _) = entered amount terms
+  enter_event amount terms (Err fault) = refused (enter amount terms) fault
 
   -- a draw by its answer
-  abbrev pub draw-event : Rule → ℕ → Result ℕ StoreFault → Event T
-  draw-event rule wanted (Ok answer) = drew rule wanted answer
-  draw-event rule wanted (Err fault) = refused (draw rule wanted) fault
+  abbrev pub draw_event : Rule → ℕ → Result ℕ StoreFault → Event T
+  draw_event rule wanted (Ok answer) = drew rule wanted answer
+  draw_event rule wanted (Err fault) = refused (draw rule wanted) fault
 
   -- a turn by its answer
-  abbrev pub turn-event : Result (ℕ × ℕ) StoreFault → Event T
-  turn-event (Ok answer) = turned answer.0 answer.1
-  turn-event (Err fault) = refused turn fault
+  abbrev pub turn_event : Result (ℕ × ℕ) StoreFault → Event T
+  turn_event (Ok answer) = turned answer.0 answer.1
+  turn_event (Err fault) = refused turn fault
 
   -- a store of this kind at s answers as the event says, and is at s' afterwards
   abbrev pub Does : Kind T → Ledger T → Event T → Ledger T → Type 0

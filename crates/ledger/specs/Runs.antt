@@ -10,11 +10,11 @@ use Rattle.ledger.specs.History.Event.{entered, drew, turned, refused}
 
 module _ {T : Type 0} where
   -- the call of an event
-  abbrev pub call-of : Event T → Call T
-  call-of (entered amount terms) = enter amount terms
-  call-of (drew rule wanted answer) = draw rule wanted
-  call-of (turned refunded lost) = turn
-  call-of (refused call fault) = call
+  abbrev pub call_of : Event T → Call T
+  call_of (entered amount terms) = enter amount terms
+  call_of (drew rule wanted answer) = draw rule wanted
+  call_of (turned refunded lost) = turn
+  call_of (refused call fault) = call
 
   -- calls that may follow an opening: any with lawful rules, but no further opening
   abbrev pub Following : List (Call T) → Type 0
@@ -27,7 +27,7 @@ module _ {T : Type 0} where
 -- every list of calls after an opening has a history
 abbrev pub CallsHaveHistories : {T : Type 0} → Kind T → Type 0
 CallsHaveHistories {T} kind =
-    (m₀ : ℕ) → 47 ≤ m₀ → m₀ ≤ 1199 → (calls : List (Call T)) → Following calls → (h : History T) × (s : Ledger T) × (map call-of h ≡ calls) × Had kind m₀ h s
+    (m₀ : ℕ) → 47 ≤ m₀ → m₀ ≤ 1199 → (calls : List (Call T)) → Following calls → (h : History T) × (s : Ledger T) × (map call_of h ≡ calls) × Had kind m₀ h s
 
 -- a history decides where the store stands
 abbrev pub HistoriesDecide : {T : Type 0} → Kind T → Type 0

@@ -8,31 +8,31 @@ use Rattle.ledger.specs.Steps.{takings}
 use Rattle.ledger.specs.History.{History, Had}
 use Rattle.ledger.specs.History.Event.{entered, drew, turned, refused}
 use Rattle.ledger.specs.Totals.{Used, Refunded, Lost}
-use Rattle.ledger.specs.Ways.{Way, Fair, way-used, way-run-out, way-left-from}
+use Rattle.ledger.specs.Ways.{Way, Fair, way_used, way_run_out, way_left_from}
 
 module _ {T : Type 0} where
   -- what these takings take from the portion of month k
-  abbrev pub taken-from : ℕ → List ℕ → List (Portion T) → ℕ
-  taken-from k [] ps = 0
-  taken-from k (x ∷ xs) [] = 0
-  taken-from k (x ∷ xs) (p ∷ ps) = cond (p.month == k) x 0 + taken-from k xs ps
+  abbrev pub taken_from : ℕ → List ℕ → List (Portion T) → ℕ
+  taken_from k [] ps = 0
+  taken_from k (x ∷ xs) [] = 0
+  taken_from k (x ∷ xs) (p ∷ ps) = cond (p.month == k) x 0 + taken_from k xs ps
 
   -- the way is the store's own: in each accepted draw it takes what the rule gave
   abbrev pub Own : Kind T → ℕ → Way → History T → Type 0
   Own kind m₀ way [] = Unit {0}
   Own kind m₀ way (entered amount terms ∷ h) = Own kind m₀ way h
   Own kind m₀ way (drew rule wanted answer ∷ h) =
-      ((s : Ledger T) → Had kind m₀ h s → (k : ℕ) → way (length h) k ≡ taken-from k (takings rule wanted s) s.portions) × Own kind m₀ way h
+      ((s : Ledger T) → Had kind m₀ h s → (k : ℕ) → way (length h) k ≡ taken_from k (takings rule wanted s) s.portions) × Own kind m₀ way h
   Own kind m₀ way (turned refunded lost ∷ h) = Own kind m₀ way h
   Own kind m₀ way (refused call fault ∷ h) = Own kind m₀ way h
 
   -- what is left in the open portions of month m and later
-  abbrev pub left-from : ℕ → List (Portion T) → ℕ
-  left-from m ps = total (λ p. cond (nat_le m p.month) p.left 0) ps
+  abbrev pub left_from : ℕ → List (Portion T) → ℕ
+  left_from m ps = total (λ p. cond (nat_le m p.month) p.left 0) ps
 
 -- the store's own way is fair, whatever the rules, and has used, run out and left what the store says
 pub record ServesFairly {T : Type 0} (kind : Kind T) (m₀ : ℕ) (h : History T) (s : Ledger T) (way : Way) : Type 0 where
   pub fair : Fair kind m₀ way h
-  pub same_used : way-used way h ≡ Used h
-  pub same_run_out : way-run-out kind m₀ way h ≡ Refunded h + Lost h
-  pub same_left : (m : ℕ) → way-left-from kind m₀ way h m ≡ left-from m s.portions
+  pub same_used : way_used way h ≡ Used h
+  pub same_run_out : way_run_out kind m₀ way h ≡ Refunded h + Lost h
+  pub same_left : (m : ℕ) → way_left_from kind m₀ way h m ≡ left_from m s.portions

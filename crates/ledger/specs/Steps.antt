@@ -49,8 +49,8 @@ module _ {T : Type 0} where
   ends_by life m p = nat_lt (p.month + life) m
 
   -- whether it has not
-  abbrev pub stays-in : ℕ → ℕ → Portion T → Bool
-  stays-in life m p = not (ends_by life m p)
+  abbrev pub stays_in : ℕ → ℕ → Portion T → Bool
+  stays_in life m p = not (ends_by life m p)
 
   -- the portions that the turn to the next month ends
   abbrev pub ending : Kind T → Ledger T → List (Portion T)
@@ -69,7 +69,7 @@ module _ {T : Type 0} where
   turning kind s = record {
     opened = true;
     month = s.month + 1;
-    portions = filter (stays-in kind.life (s.month + 1)) s.portions;
+    portions = filter (stays_in kind.life (s.month + 1)) s.portions;
     entered = s.entered;
     used = s.used;
     refunded = s.refunded + refunds kind s;
@@ -77,29 +77,29 @@ module _ {T : Type 0} where
   }
 
   -- the answer to an opening, and the ledger after it
-  abbrev pub open-answer : Kind T → ℕ → ℕ → Ledger T → Result (Unit {0}) StoreFault
-  open-answer kind slots month s = answers (refusal kind (open_for slots month) s) tt
+  abbrev pub open_answer : Kind T → ℕ → ℕ → Ledger T → Result (Unit {0}) StoreFault
+  open_answer kind slots month s = answers (refusal kind (open_for slots month) s) tt
 
   abbrev pub open_after : Kind T → ℕ → ℕ → Ledger T → Ledger T
   open_after kind slots month s = becomes (refusal kind (open_for slots month) s) (opening month) s
 
   -- the answer to an enter, and the ledger after it
-  abbrev pub enter-answer : Kind T → ℕ → T → Ledger T → Result (Unit {0}) StoreFault
-  enter-answer kind amount terms s = answers (refusal kind (enter amount terms) s) tt
+  abbrev pub enter_answer : Kind T → ℕ → T → Ledger T → Result (Unit {0}) StoreFault
+  enter_answer kind amount terms s = answers (refusal kind (enter amount terms) s) tt
 
-  abbrev pub enter-after : Kind T → ℕ → T → Ledger T → Ledger T
-  enter-after kind amount terms s = becomes (refusal kind (enter amount terms) s) (entering amount terms s) s
+  abbrev pub enter_after : Kind T → ℕ → T → Ledger T → Ledger T
+  enter_after kind amount terms s = becomes (refusal kind (enter amount terms) s) (entering amount terms s) s
 
   -- the answer to a draw, and the ledger after it
-  abbrev pub draw-answer : Kind T → Rule → ℕ → Ledger T → Result ℕ StoreFault
-  draw-answer kind rule wanted s = answers (refusal kind (draw rule wanted) s) (sum (takings rule wanted s))
+  abbrev pub draw_answer : Kind T → Rule → ℕ → Ledger T → Result ℕ StoreFault
+  draw_answer kind rule wanted s = answers (refusal kind (draw rule wanted) s) (sum (takings rule wanted s))
 
-  abbrev pub draw-after : Kind T → Rule → ℕ → Ledger T → Ledger T
-  draw-after kind rule wanted s = becomes (refusal kind (draw rule wanted) s) (drawing (takings rule wanted s) s) s
+  abbrev pub draw_after : Kind T → Rule → ℕ → Ledger T → Ledger T
+  draw_after kind rule wanted s = becomes (refusal kind (draw rule wanted) s) (drawing (takings rule wanted s) s) s
 
   -- the answer to a turn, and the ledger after it
-  abbrev pub turn-answer : Kind T → Ledger T → Result (ℕ × ℕ) StoreFault
-  turn-answer kind s = answers (refusal kind turn s) (refunds kind s, losses kind s)
+  abbrev pub turn_answer : Kind T → Ledger T → Result (ℕ × ℕ) StoreFault
+  turn_answer kind s = answers (refusal kind turn s) (refunds kind s, losses kind s)
 
-  abbrev pub turn-after : Kind T → Ledger T → Ledger T
-  turn-after kind s = becomes (refusal kind turn s) (turning kind s) s
+  abbrev pub turn_after : Kind T → Ledger T → Ledger T
+  turn_after kind s = becomes (refusal kind turn s) (turning kind s) s

@@ -29,12 +29,12 @@ module _ {T : Type 0} where
   taken way (refused call fault ∷ h) k = taken way h k
 
   -- what a way has used: the sum of its takings
-  abbrev pub way-used : Way → History T → ℕ
-  way-used way [] = 0
-  way-used way (entered amount terms ∷ h) = way-used way h
-  way-used way (drew rule wanted answer ∷ h) = way-used way h + over_months (way (length h))
-  way-used way (turned refunded lost ∷ h) = way-used way h
-  way-used way (refused call fault ∷ h) = way-used way h
+  abbrev pub way_used : Way → History T → ℕ
+  way_used way [] = 0
+  way_used way (entered amount terms ∷ h) = way_used way h
+  way_used way (drew rule wanted answer ∷ h) = way_used way h + over_months (way (length h))
+  way_used way (turned refunded lost ∷ h) = way_used way h
+  way_used way (refused call fault ∷ h) = way_used way h
 
   -- the portion of month k was entered, and no turn has taken the month past its life
   abbrev pub Open : Kind T → ℕ → History T → ℕ → Type 0
@@ -60,9 +60,9 @@ module _ {T : Type 0} where
   remains m₀ way h k = received m₀ h k - taken way h k
 
   -- what has run out in a way: what it leaves of the portions that have ended
-  abbrev pub way-run-out : Kind T → ℕ → Way → History T → ℕ
-  way-run-out kind m₀ way h = over_months (λ k. cond (nat_lt (k + kind.life) (reached m₀ h)) (remains m₀ way h k) 0)
+  abbrev pub way_run_out : Kind T → ℕ → Way → History T → ℕ
+  way_run_out kind m₀ way h = over_months (λ k. cond (nat_lt (k + kind.life) (reached m₀ h)) (remains m₀ way h k) 0)
 
   -- what a way leaves in the open portions of month m and later
-  abbrev pub way-left-from : Kind T → ℕ → Way → History T → ℕ → ℕ
-  way-left-from kind m₀ way h m = over_months (λ k. cond (nat_le m k && nat_le (reached m₀ h) (k + kind.life)) (remains m₀ way h k) 0)
+  abbrev pub way_left_from : Kind T → ℕ → Way → History T → ℕ → ℕ
+  way_left_from kind m₀ way h m = over_months (λ k. cond (nat_le m k && nat_le (reached m₀ h) (k + kind.life)) (remains m₀ way h k) 0)

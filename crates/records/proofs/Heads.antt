@@ -69,10 +69,10 @@ framed_joined bs f e =
     let payload : take n (drop 4 bs) ≡ f.payload = ap (λ m. take m (drop 4 bs)) parts.payload_length ∙ ap (λ (g : Framed). g.payload) one.is in
     let rest : drop (4 + n) bs ≡ f.rest = ap (λ m. drop (4 + m) bs) parts.payload_length ∙ ap (λ (g : Framed). g.rest) one.is in
     let kept : f.payload ≡ drop 4 front = sym payload ∙ sym (drop-take 4 n bs) in
-    let length-kept : n ≡ head_length front = parts.payload_length ∙ sym (two_at_take (4 + n) bs 0 (omega arith)) in
-    let kind-kept : f.kind ≡ head_kind front = sym (ap (λ (g : Framed). g.kind) one.is) ∙ sym (two_at_take (4 + n) bs 2 (omega arith)) in
+    let length_kept : n ≡ head_length front = parts.payload_length ∙ sym (two_at_take (4 + n) bs 0 (omega arith)) in
+    let kind_kept : f.kind ≡ head_kind front = sym (ap (λ (g : Framed). g.kind) one.is) ∙ sym (two_at_take (4 + n) bs 2 (omega arith)) in
     record {
       joined = ap (λ r. front ++ r) (sym rest) ∙ take-append-drop (4 + n) bs;
       payload_is = kept;
-      alone = framed_some front f.kind n f.payload [] length-kept kind-kept (omega arith) (kept ∙ sym (take_all n (drop 4 front) (omega (arith, length-drop 4 front)))) (sym (drop_all n (drop 4 front) (omega (arith, length-drop 4 front))));
+      alone = framed_some front f.kind n f.payload [] length_kept kind_kept (omega arith) (kept ∙ sym (take_all n (drop 4 front) (omega (arith, length-drop 4 front)))) (sym (drop_all n (drop 4 front) (omega (arith, length-drop 4 front))));
     }

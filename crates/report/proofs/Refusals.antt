@@ -12,7 +12,7 @@ use Rattle.records.specs.Records.Rec.{opens_metering, opens_billing, opens_book,
 use Rattle.answers.specs.Said.{Said}
 use Rattle.desk.specs.State.{Account, BookState, State}
 use Rattle.desk.specs.State.Account.{none, metered, billed}
-use Rattle.desk.specs.Outcome.{Outcome, by_account, by-book}
+use Rattle.desk.specs.Outcome.{Outcome, by_account, by_book}
 use Rattle.desk.specs.Accounts.{own_month, metering_opened, billing_opened, sums_entered, account_settled, account_turned}
 use Rattle.desk.specs.Books.{finish_refusal, book_sums}
 use Rattle.desk.specs.Steps.{meter_opening, bill_opening, on_account, book_opened, change, with_account, book_step, enter_book, finish_complete, finish_book}
@@ -30,7 +30,7 @@ module _ {X : Type 0} where
   by_account_leaves None old said new fault e = let z : ◌≡◌ {A = ℕ} 0 1 = cc in absurd (omega arith)
 
   -- and what a book refuses
-  by_book_leaves : (refusal : Option BookFault) (old new : X) → Leaves (by-book refusal old new) old
+  by_book_leaves : (refusal : Option BookFault) (old new : X) → Leaves (by_book refusal old new) old
   by_book_leaves (Some f) old new fault e = refl
   by_book_leaves None old new fault e = let z : ◌≡◌ {A = ℕ} 0 1 = cc in absurd (omega arith)
 
@@ -121,7 +121,7 @@ finish_left (billed c) (Some b) fault e = complete_left (billed c) (λ sums. by_
 
 -- nothing differs, or what was said is a finish and the book is gone
 abbrev LeftBy : State → Read → ProgramFault → Outcome State → Type 0
-LeftBy s said-by fault o = (o.after ≡ s) ⊎ ((said-by ≡ Ok finish) × Struck s.account fault o)
+LeftBy s said_by fault o = (o.after ≡ s) ⊎ ((said_by ≡ Ok finish) × Struck s.account fault o)
 
 -- the same, with what was said
 finish_left_by : (s : State) (fault : ProgramFault) (o : Outcome State) → Left s fault o → LeftBy s (Ok finish) fault o
@@ -129,7 +129,7 @@ finish_left_by s fault o (inl same) = inl same
 finish_left_by s fault o (inr struck) = inr (refl, struck)
 
 -- what any refused record leaves
-handled_left : (s : State) (said-by : Read) (fault : ProgramFault) → (handled s said-by).answer ≡ Err fault → LeftBy s said-by fault (handled s said-by)
+handled_left : (s : State) (said_by : Read) (fault : ProgramFault) → (handled s said_by).answer ≡ Err fault → LeftBy s said_by fault (handled s said_by)
 handled_left s (Err f) fault e = inl refl
 handled_left s (Ok (opens_metering month power period)) fault e = inl (account_leaves s _ (metering_leaves (meter_opening program_memory month power period) s.account) fault e)
 handled_left s (Ok (opens_billing month percentage)) fault e = inl (account_leaves s _ (billing_leaves (bill_opening program_memory month percentage) s.account) fault e)

@@ -79,7 +79,7 @@ says_framed at s bs f e =
     ap (λ k. decoded k (drop 4 (take (4 + length f.payload) bs))) (head_is (take (4 + length f.payload) bs) (whole (take (4 + length f.payload) bs)) f.kind f.payload [] refl j.alone)
     ∙ ap (λ p. decoded f.kind p) (sym j.payload_is)
 
-module _ (all out : List ℕ) (d : Desk) (m : MeterAccount) (b : BillAccount) (at : ℕ) (rest : List ℕ) (sofar : Sofar all out d m b at rest) (f : Framed) (framed-so : framed rest ≡ Some f) where
+module _ (all out : List ℕ) (d : Desk) (m : MeterAccount) (b : BillAccount) (at : ℕ) (rest : List ℕ) (sofar : Sofar all out d m b at rest) (f : Framed) (framed_so : framed rest ≡ Some f) where
   -- the record that comes next
   abbrev next : Entry
   next = entry_at at sofar.state rest f
@@ -91,10 +91,10 @@ module _ (all out : List ℕ) (d : Desk) (m : MeterAccount) (b : BillAccount) (a
     pub entries : trace all ≡ onto (sofar.past ++ (next ∷ [])) (traced fuel (outcome next).after (at + (4 + length f.payload)) f.rest)
 
   step_by : (k : ℕ) → length rest ≤ k → trace all ≡ onto sofar.past (traced k sofar.state at rest) → Step
-  step_by zero enough entries = let p = framed_parts rest f framed-so in absurd (omega (arith, p.rest_length))
+  step_by zero enough entries = let p = framed_parts rest f framed_so in absurd (omega (arith, p.rest_length))
   step_by (suc k) enough entries =
-      let p = (framed_parts rest f framed-so).rest_length in
-      record { fuel = k; enough = omega arith; entries = entries ∙ ap (onto sofar.past) (traced_some k sofar.state at rest f framed-so) ∙ onto_one sofar.past next _ }
+      let p = (framed_parts rest f framed_so).rest_length in
+      record { fuel = k; enough = omega arith; entries = entries ∙ ap (onto sofar.past) (traced_some k sofar.state at rest f framed_so) ∙ onto_one sofar.past next _ }
 
   pub the_step : Step
   the_step = step_by sofar.fuel sofar.enough sofar.entries
@@ -107,13 +107,13 @@ module _ (all out : List ℕ) (d : Desk) (m : MeterAccount) (b : BillAccount) (a
 
   -- what it comes to
   outcome_is : outcome next ≡ handled sofar.state (decoded f.kind f.payload)
-  outcome_is = ap (handled sofar.state) (says_framed at sofar.state rest f framed-so)
+  outcome_is = ap (handled sofar.state) (says_framed at sofar.state rest f framed_so)
 
   -- one record more
   pub one_more : (out' : List ℕ) (d' : Desk) (m' : MeterAccount) (b' : BillAccount) (r : Result Said ProgramFault) → Came (handled sofar.state (decoded f.kind f.payload)) r (Means d' m' b') →
       out' ≡ out ++ answer_text at r → Sofar all out' d' m' b' (at + (4 + length f.payload)) f.rest
   one_more out' d' m' b' r came e =
-      let p = (framed_parts rest f framed-so).rest_length in
+      let p = (framed_parts rest f framed_so).rest_length in
       let same = outcome_is in
       record {
         past = sofar.past ++ (next ∷ []);
@@ -128,7 +128,7 @@ module _ (all out : List ℕ) (d : Desk) (m : MeterAccount) (b : BillAccount) (a
 
   -- memory is wanting for its prices
   pub wants_prices : ReadsPrices (decoded f.kind f.payload) → NeedsMemory all
-  wants_prices brings = inr (sofar.past, next, follows, subst ReadsPrices (sym (says_framed at sofar.state rest f framed-so)) brings)
+  wants_prices brings = inr (sofar.past, next, follows, subst ReadsPrices (sym (says_framed at sofar.state rest f framed_so)) brings)
 
   -- or for its text
   pub wants_text : (r : Result Said ProgramFault) (After : State → Type 0) → Came (handled sofar.state (decoded f.kind f.payload)) r After → (answer_text at r ≡ [] → ⊥) → NeedsMemory all

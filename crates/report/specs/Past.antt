@@ -35,18 +35,18 @@ sums_in (Some b) = book_sums b
 
 module _ {O S : Type 0} where
   -- a call that the account refused; what is refused before it comes to the account is no call
-  abbrev pub refused-call : account.Call O → ProgramFault → History O S → History O S
-  refused-call call (InAccount fault) h = history.refused call fault ∷ h
-  refused-call call (InBook fault) h = h
-  refused-call call FileEnds h = h
-  refused-call call Malformed h = h
-  refused-call call OutOfPlace h = h
+  abbrev pub refused_call : account.Call O → ProgramFault → History O S → History O S
+  refused_call call (InAccount fault) h = history.refused call fault ∷ h
+  refused_call call (InBook fault) h = h
+  refused_call call FileEnds h = h
+  refused_call call Malformed h = h
+  refused_call call OutOfPlace h = h
 
   -- the calls after a finish, which enters the book's sums
   abbrev pub after_finish : Option MonthSums → Result Said ProgramFault → History O S → History O S
   after_finish None answer h = h
   after_finish (Some sums) (Ok said) h = history.entered sums ∷ h
-  after_finish (Some sums) (Err fault) h = refused-call (account.enter sums) fault h
+  after_finish (Some sums) (Err fault) h = refused_call (account.enter sums) fault h
 
   -- after a turn
   abbrev pub after_turn : Result Said ProgramFault → History O S → History O S
@@ -54,23 +54,23 @@ module _ {O S : Type 0} where
   after_turn (Ok (settled lines answer)) h = h
   after_turn (Ok (paid lines answer)) h = h
   after_turn (Ok nothing) h = h
-  after_turn (Err fault) h = refused-call account.turn fault h
+  after_turn (Err fault) h = refused_call account.turn fault h
 
   -- after any record; the first argument is what a settlement adds
-  abbrev pub after-record : (Result Said ProgramFault → History O S → History O S) → State → Result Said ProgramFault → Rec → History O S → History O S
-  after-record settling before answer (opens_metering month power period) h = h
-  after-record settling before answer (opens_billing month percentage) h = h
-  after-record settling before answer (opens_book marks sale) h = h
-  after-record settling before answer (gives_month_price price) h = h
-  after-record settling before answer (gives_hour_prices prices) h = h
-  after-record settling before answer (reading import export) h = h
-  after-record settling before answer finish h = after_finish (sums_in before.book) answer h
-  after-record settling before answer settle h = settling answer h
-  after-record settling before answer turn h = after_turn answer h
+  abbrev pub after_record : (Result Said ProgramFault → History O S → History O S) → State → Result Said ProgramFault → Rec → History O S → History O S
+  after_record settling before answer (opens_metering month power period) h = h
+  after_record settling before answer (opens_billing month percentage) h = h
+  after_record settling before answer (opens_book marks sale) h = h
+  after_record settling before answer (gives_month_price price) h = h
+  after_record settling before answer (gives_hour_prices prices) h = h
+  after_record settling before answer (reading import export) h = h
+  after_record settling before answer finish h = after_finish (sums_in before.book) answer h
+  after_record settling before answer settle h = settling answer h
+  after_record settling before answer turn h = after_turn answer h
 
   -- after what was read; a malformed record is no call
   abbrev pub after_read : (Result Said ProgramFault → History O S → History O S) → State → Result Said ProgramFault → Read → History O S → History O S
-  after_read settling before answer (Ok said) h = after-record settling before answer said h
+  after_read settling before answer (Ok said) h = after_record settling before answer said h
   after_read settling before answer (Err fault) h = h
 
 -- the calls of a metering account after a settlement
@@ -79,7 +79,7 @@ after_settlement (Ok (settled lines answer)) h = history.settled settling_rule p
 after_settlement (Ok (paid lines answer)) h = h
 after_settlement (Ok (turned refunded lost)) h = h
 after_settlement (Ok nothing) h = h
-after_settlement (Err fault) h = refused-call (account.settle settling_rule program_memory.lines) fault h
+after_settlement (Err fault) h = refused_call (account.settle settling_rule program_memory.lines) fault h
 
 -- and those of a billing account
 abbrev pub after_payment : Result Said ProgramFault → History BillOpening Payment → History BillOpening Payment
@@ -87,7 +87,7 @@ after_payment (Ok (paid lines answer)) h = history.settled settling_rule program
 after_payment (Ok (settled lines answer)) h = h
 after_payment (Ok (turned refunded lost)) h = h
 after_payment (Ok nothing) h = h
-after_payment (Err fault) h = refused-call (account.settle settling_rule program_memory.lines) fault h
+after_payment (Err fault) h = refused_call (account.settle settling_rule program_memory.lines) fault h
 
 -- a record that opens an account, where none is open
 abbrev pub opened_by : Read → Result Said ProgramFault → Past

@@ -11,7 +11,7 @@ use Rattle.settlement.specs.declared.answers.Payment.{Payment}
 use Rattle.settlement.specs.declared.states.MonthState.{MonthState}
 use Rattle.settlement.specs.declared.states.MonthState.TheVariants.{Waiting, Entered, Settled}
 use Rattle.settlement.specs.Kinds.{deposit}
-use Rattle.settlement.specs.History.{History, Had, in_all, unsettled, reached, month-state, SettledOldestFirst}
+use Rattle.settlement.specs.History.{History, Had, in_all, unsettled, reached, month_state, SettledOldestFirst}
 use Rattle.settlement.specs.Refusals.{stands}
 use Rattle.settlement.specs.History.Event.{entered, settled, turned, refused}
 use Rattle.settlement.specs.Promises.{Owed, KeepsPromise}
@@ -39,7 +39,7 @@ Calls = History BillOpening Payment
 module _ (o : BillOpening) where
   pub record Sound (h : Calls) (b : BillAccount) : Type 0 where
     pub is_open : b.opened ≡ true
-    pub state_is : b.state ≡ month-state h
+    pub state_is : b.state ≡ month_state h
     pub month_is : b.store.month ≡ reached o.month h
     pub bill_is : b.bill ≡ unsettled month_bill h
     pub few : Billed b.state b.bill

@@ -17,7 +17,7 @@ use Rattle.settlement.specs.Zones.{of}
 use Rattle.settlement.specs.Kinds.{energy}
 use Rattle.settlement.specs.Table.{ends, period_of}
 use Rattle.settlement.specs.Bounds.{months_before, most_pending}
-use Rattle.settlement.specs.History.{History, Had, in_all, unsettled, reached, month-state, SettledOldestFirst}
+use Rattle.settlement.specs.History.{History, Had, in_all, unsettled, reached, month_state, SettledOldestFirst}
 use Rattle.settlement.specs.Refusals.{stands}
 use Rattle.settlement.specs.History.Event.{entered, settled, turned, refused}
 use Rattle.settlement.specs.Promises.{Owed, KeepsPromise}
@@ -58,9 +58,9 @@ module _ (Old : Type 0) (m₀ m : ℕ) (amounts : Zone → ℕ) (rule : Rule) (l
       let rest = of zone course.rests in
       let store = of from course.stores in
       let drawn = drawing (takings rule (wanted c rest) store) store in
-      let old-here : Old → (ls : List ℕ) (want : ℕ) → rule store.month ls want ≡ oldest ls want = λ f ls want. subst (λ n. rule n ls want ≡ oldest ls want) (sym (st.months from)) (old f ls want) in
+      let old_here : Old → (ls : List ℕ) (want : ℕ) → rule store.month ls want ≡ oldest ls want = λ f ls want. subst (λ n. rule n ls want ≡ oldest ls want) (sym (st.months from)) (old f ls want) in
       record {
-        trace = put_holds (λ z s. Trace energy m₀ Old (amounts z) s) from drawn course.stores (trace_draw energy m₀ (amounts from) store (st.trace from) rule law old-here (wanted c rest) (wanted_small c rest low high (st.few zone))) st.trace;
+        trace = put_holds (λ z s. Trace energy m₀ Old (amounts z) s) from drawn course.stores (trace_draw energy m₀ (amounts from) store (st.trace from) rule law old_here (wanted c rest) (wanted_small c rest low high (st.few zone))) st.trace;
         months = put_holds (λ z s. s.month ≡ m) from drawn course.stores (st.months from) st.months;
         few = λ z. omega (arith, cover_rests rule law c (omega arith) zone from course z, st.few z);
       }
@@ -78,7 +78,7 @@ module _ (o : MeterOpening) where
     pub high : a.coefficient ≤ 8
     pub is_open : a.opened ≡ true
     pub period_is : a.period ≡ or_monthly (period_of o.months)
-    pub state_is : a.state ≡ month-state h
+    pub state_is : a.state ≡ month_state h
     pub month_is : month a ≡ reached o.month h
     pub months : (z : Zone) → (of z a.stores).month ≡ month a
     pub pending_is : (z : Zone) → of z a.pending ≡ unsettled (import_of z) h
@@ -214,7 +214,7 @@ told : (o : MeterOpening) (h : Calls) (a : MeterAccount) → Had metering o h a 
 told o h a had =
     let s = sound o h a had in
     let period = ap (λ p. ends p a.stores.one.month) s.period_is ∙ ap (ends (or_monthly (period_of o.months))) s.month_is in
-    standing_is _ _ _ _ _ _ _ s.is_open s.state_is s.month_is ∙ ap (λ e. record { opened = true; month = reached o.month h; state = month-state h; ends = e }) period
+    standing_is _ _ _ _ _ _ _ s.is_open s.state_is s.month_is ∙ ap (λ e. record { opened = true; month = reached o.month h; state = month_state h; ends = e }) period
 
 pub metering_keeps : KeepsPromise metering
 metering_keeps o h a had =

@@ -13,9 +13,9 @@ use Rattle.settlement.specs.Table.{table, barred}
 use Rattle.settlement.specs.Standing.{asks, or_else, enter_refusal, settle_refusal, turn_refusal}
 use Rattle.settlement.specs.Accounts.{Workings}
 use Rattle.settlement.specs.Accounts.Call.{open_for, enter, settle, turn}
-use Rattle.settlement.specs.History.{History, Had, month-state}
+use Rattle.settlement.specs.History.{History, Had, month_state}
 use Rattle.settlement.specs.History.Event.{entered, settled, turned, refused}
-use Rattle.settlement.specs.Refusals.{month-now, ends_now, stands, AllRightly}
+use Rattle.settlement.specs.Refusals.{month_now, ends_now, stands, AllRightly}
 use Rattle.settlement.proofs.Tables.{never, asked, or_else_none, enters_in, settles_in, turns_in}
 
 -- where an account stands, by its parts
@@ -72,50 +72,50 @@ module _ {O A S Z T : Type 0} (works : Workings O A S Z T) (o : O) (h : History 
   abbrev here : Standing
   here = stands works o h
 
-  entered_rightly : (m : ℕ) → enter_refusal here m ≡ None → (m ≡ month-now works o h) × (month-state h ≡ Waiting)
+  entered_rightly : (m : ℕ) → enter_refusal here m ≡ None → (m ≡ month_now works o h) × (month_state h ≡ Waiting)
   entered_rightly m e =
-      let a = asked (eqb m (month-now works o h)) OtherMonth _ e in
-      (eqb-true m (month-now works o h) a.0, enters_in (month-state h) (ends_now works o h) a.1)
+      let a = asked (eqb m (month_now works o h)) OtherMonth _ e in
+      (eqb-true m (month_now works o h) a.0, enters_in (month_state h) (ends_now works o h) a.1)
 
-  settled_rightly : (fewest lines : ℕ) → settle_refusal here fewest lines ≡ None → (month-state h ≡ Entered) × (ends_now works o h ≡ true) × (fewest ≤ lines)
+  settled_rightly : (fewest lines : ℕ) → settle_refusal here fewest lines ≡ None → (month_state h ≡ Entered) × (ends_now works o h ≡ true) × (fewest ≤ lines)
   settled_rightly fewest lines e =
-      let a = or_else_none (barred (table (month-state h) Settle (ends_now works o h))) _ e in
-      let b = settles_in (month-state h) (ends_now works o h) a.0 in
+      let a = or_else_none (barred (table (month_state h) Settle (ends_now works o h))) _ e in
+      let b = settles_in (month_state h) (ends_now works o h) a.0 in
       (b.0, b.1, leb-true fewest lines (asked (leb fewest lines) TooFewLines None a.1).0)
 
-  turned_rightly : turn_refusal here ≡ None → (month-now works o h < 1199) × (((month-state h ≡ Entered) × (ends_now works o h ≡ false)) ⊎ (month-state h ≡ Settled))
+  turned_rightly : turn_refusal here ≡ None → (month_now works o h < 1199) × (((month_state h ≡ Entered) × (ends_now works o h ≡ false)) ⊎ (month_state h ≡ Settled))
   turned_rightly e =
-      let a = asked (ltb (month-now works o h) 1199) (InStore LastMonth) _ e in
-      (ltb-true (month-now works o h) 1199 a.0, turns_in (month-state h) (ends_now works o h) a.1)
+      let a = asked (ltb (month_now works o h) 1199) (InStore LastMonth) _ e in
+      (ltb-true (month_now works o h) 1199 a.0, turns_in (month_state h) (ends_now works o h) a.1)
 
   enter_refused : (m : ℕ) (f : AccountFault) → enter_refusal here m ≡ Some f →
-      ((account_number f ≡ 24) × (m ≡ month-now works o h → ⊥)) ⊎ ((account_number f ≡ 25) × (m ≡ month-now works o h) × (month-state h ≡ Waiting → ⊥))
+      ((account_number f ≡ 24) × (m ≡ month_now works o h → ⊥)) ⊎ ((account_number f ≡ 25) × (m ≡ month_now works o h) × (month_state h ≡ Waiting → ⊥))
   enter_refused m f e =
-      elim (failed (eqb m (month-now works o h)) OtherMonth f _ e) [
-        | inl x ↦ inl (ap account_number x.0, eqb-false m (month-now works o h) x.1)
-        | inr x ↦ let b = enter_barred (month-state h) (ends_now works o h) f x.1 in inr (b.0, eqb-true m (month-now works o h) x.0, b.1)
+      elim (failed (eqb m (month_now works o h)) OtherMonth f _ e) [
+        | inl x ↦ inl (ap account_number x.0, eqb-false m (month_now works o h) x.1)
+        | inr x ↦ let b = enter_barred (month_state h) (ends_now works o h) f x.1 in inr (b.0, eqb-true m (month_now works o h) x.0, b.1)
       ]
 
   settle_refused : (fewest lines : ℕ) (f : AccountFault) → settle_refusal here fewest lines ≡ Some f →
-      ((account_number f ≡ 26) × (month-state h ≡ Waiting)) ⊎ (((account_number f ≡ 27) × (month-state h ≡ Entered) × (ends_now works o h ≡ false))
-      ⊎ (((account_number f ≡ 29) × (month-state h ≡ Settled)) ⊎ ((account_number f ≡ 30) × (month-state h ≡ Entered) × (ends_now works o h ≡ true) × (lines < fewest))))
+      ((account_number f ≡ 26) × (month_state h ≡ Waiting)) ⊎ (((account_number f ≡ 27) × (month_state h ≡ Entered) × (ends_now works o h ≡ false))
+      ⊎ (((account_number f ≡ 29) × (month_state h ≡ Settled)) ⊎ ((account_number f ≡ 30) × (month_state h ≡ Entered) × (ends_now works o h ≡ true) × (lines < fewest))))
   settle_refused fewest lines f e =
-      elim (either (barred (table (month-state h) Settle (ends_now works o h))) _ f e) [
-        | inl x ↦ elim (settle_barred (month-state h) (ends_now works o h) f x) [ inl y ↦ inl y | inr y ↦ elim y [ inl z ↦ inr (inl z) | inr z ↦ inr (inr (inl z)) ] ]
+      elim (either (barred (table (month_state h) Settle (ends_now works o h))) _ f e) [
+        | inl x ↦ elim (settle_barred (month_state h) (ends_now works o h) f x) [ inl y ↦ inl y | inr y ↦ elim y [ inl z ↦ inr (inl z) | inr z ↦ inr (inr (inl z)) ] ]
         | inr x ↦
-            let b = settles_in (month-state h) (ends_now works o h) x.0 in
+            let b = settles_in (month_state h) (ends_now works o h) x.0 in
             elim (failed (leb fewest lines) TooFewLines f None x.1) [ inl y ↦ inr (inr (inr (ap account_number y.0, b.0, b.1, leb-false fewest lines y.1))) | inr y ↦ no_fault f y.1 ]
       ]
 
   turn_refused : (f : AccountFault) → turn_refusal here ≡ Some f →
-      ((account_number f ≡ 6) × (1199 ≤ month-now works o h))
-      ⊎ (((account_number f ≡ 26) × (month-now works o h < 1199) × (month-state h ≡ Waiting)) ⊎ ((account_number f ≡ 28) × (month-now works o h < 1199) × (month-state h ≡ Entered) × (ends_now works o h ≡ true)))
+      ((account_number f ≡ 6) × (1199 ≤ month_now works o h))
+      ⊎ (((account_number f ≡ 26) × (month_now works o h < 1199) × (month_state h ≡ Waiting)) ⊎ ((account_number f ≡ 28) × (month_now works o h < 1199) × (month_state h ≡ Entered) × (ends_now works o h ≡ true)))
   turn_refused f e =
-      elim (failed (ltb (month-now works o h) 1199) (InStore LastMonth) f _ e) [
-        | inl x ↦ inl (ap account_number x.0, ltb-false (month-now works o h) 1199 x.1)
+      elim (failed (ltb (month_now works o h) 1199) (InStore LastMonth) f _ e) [
+        | inl x ↦ inl (ap account_number x.0, ltb-false (month_now works o h) 1199 x.1)
         | inr x ↦
-            let early = ltb-true (month-now works o h) 1199 x.0 in
-            elim (turn_barred (month-state h) (ends_now works o h) f x.1) [ inl y ↦ inr (inl (y.0, early, y.1)) | inr y ↦ inr (inr (y.0, early, y.1, y.2)) ]
+            let early = ltb-true (month_now works o h) 1199 x.0 in
+            elim (turn_barred (month_state h) (ends_now works o h) f x.1) [ inl y ↦ inr (inl (y.0, early, y.1)) | inr y ↦ inr (inr (y.0, early, y.1, y.2)) ]
       ]
 
 module _ {O A S Z T : Type 0} (works : Workings O A S Z T) (told : (o : O) (h : History O S) (a : A) → Had works o h a → works.standing a ≡ stands works o h) where

@@ -7,12 +7,12 @@ use Rattle.settlement.specs.Accounts.{Call, Workings, refusal}
 use Rattle.settlement.specs.Accounts.Call.{open_for, enter, settle, turn}
 use Rattle.settlement.specs.History.{Event, History, Had, Does}
 use Rattle.settlement.specs.History.Event.{entered, settled, turned, refused}
-use Rattle.settlement.specs.Runs.{call-of, CallsHaveHistories, HistoriesDecide}
+use Rattle.settlement.specs.Runs.{call_of, CallsHaveHistories, HistoriesDecide}
 
 module _ {O A S Z T : Type 0} (works : Workings O A S Z T) where
   -- a call on an account at a is one event, and the account is somewhere after it
   abbrev Next : A → Call O → Type 0
-  Next a call = (e : Event O S) × (a' : A) × (call-of e ≡ call) × Does works a e a'
+  Next a call = (e : Event O S) × (a' : A) × (call_of e ≡ call) × Does works a e a'
 
   next_enter : (a : A) (sums : MonthSums) (o : Option AccountFault) → refusal works (enter sums) a ≡ o → Next a (enter sums)
   next_enter a sums None e = (entered sums, works.entering sums a, refl, (e, refl))
@@ -28,11 +28,11 @@ module _ {O A S Z T : Type 0} (works : Workings O A S Z T) where
 
   -- a history of some calls, and one call more
   abbrev Run : O → List (Call O) → Type 0
-  Run o calls = (h : History O S) × (a : A) × (map call-of h ≡ calls) × Had works o h a
+  Run o calls = (h : History O S) × (a : A) × (map call_of h ≡ calls) × Had works o h a
 
   go_on : (o : O) (call : Call O) (calls : List (Call O)) (before : Run o calls) → Next before.1 call → Run o (call ∷ calls)
   go_on o call calls before n =
-      (n.0 ∷ before.0, n.1, ap (λ c. c ∷ map call-of before.0) n.2 ∙ ap (λ cs. call ∷ cs) before.2, (before.1, before.3, n.3))
+      (n.0 ∷ before.0, n.1, ap (λ c. c ∷ map call_of before.0) n.2 ∙ ap (λ cs. call ∷ cs) before.2, (before.1, before.3, n.3))
 
   pub have_histories : CallsHaveHistories works
   have_histories o ok [] f = ([], works.opening o, refl, (ok, refl))

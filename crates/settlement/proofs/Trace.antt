@@ -9,7 +9,7 @@ use Rattle.ledger.specs.Rules.{Rule, LawfulRule}
 use Rattle.ledger.specs.Ledger.{Ledger, opening, lefts, has}
 use Rattle.ledger.specs.Calls.{refusal}
 use Rattle.ledger.specs.Calls.Call.{enter, draw, turn}
-use Rattle.ledger.specs.Steps.{entering, takings, drawing, stays-in, refunds, losses, turning}
+use Rattle.ledger.specs.Steps.{entering, takings, drawing, stays_in, refunds, losses, turning}
 use Rattle.ledger.specs.History.{History, Had}
 use Rattle.ledger.specs.History.Event.{entered, drew, turned}
 use Rattle.ledger.specs.Totals.{Entered}
@@ -68,4 +68,4 @@ module _ {T : Type 0} (kind : Kind T) (m₀ : ℕ) where
     -- a month that was just turned to has no portion yet
     pub turned_free : has (s.month + 1) (turning kind s).portions ≡ false
     turned_free =
-        none_after s.month (turning kind s).portions (upto_kept s.month (stays-in kind.life (s.month + 1)) s.portions (sound kind m₀ t.calls s t.had).up_to)
+        none_after s.month (turning kind s).portions (upto_kept s.month (stays_in kind.life (s.month + 1)) s.portions (sound kind m₀ t.calls s t.had).up_to)

@@ -15,7 +15,7 @@ abbrev pub oldest_first : Rule
 oldest_first month lefts wanted = oldest lefts wanted
 
 -- an account in month 97 with c = 8, imports of the zones 1 and 2 pending and their exports stored
-abbrev pub with_sums : (import-one import-two export-one export-two : ℕ) → MeterAccount
+abbrev pub with_sums : (import_one import_two export_one export_two : ℕ) → MeterAccount
 with_sums i j e f = record {
   opened = true;
   coefficient = 8;

@@ -23,19 +23,19 @@ History O S = List (Event O S)
 
 module _ {O S : Type 0} where
   -- an enter by its answer
-  abbrev pub enter-event : MonthSums → Result (Unit {0}) Returned → Event O S
-  enter-event sums (Ok _) = entered sums
-  enter-event sums (Err back) = refused (enter sums) back.fault
+  abbrev pub enter_event : MonthSums → Result (Unit {0}) Returned → Event O S
+  enter_event sums (Ok _) = entered sums
+  enter_event sums (Err back) = refused (enter sums) back.fault
 
   -- a settlement by its answer
-  abbrev pub settle-event : Rule → ℕ → Result S AccountFault → Event O S
-  settle-event rule lines (Ok answer) = settled rule lines answer
-  settle-event rule lines (Err fault) = refused (settle rule lines) fault
+  abbrev pub settle_event : Rule → ℕ → Result S AccountFault → Event O S
+  settle_event rule lines (Ok answer) = settled rule lines answer
+  settle_event rule lines (Err fault) = refused (settle rule lines) fault
 
   -- a turn by its answer
-  abbrev pub turn-event : Result (ℕ × ℕ) AccountFault → Event O S
-  turn-event (Ok answer) = turned answer.0 answer.1
-  turn-event (Err fault) = refused turn fault
+  abbrev pub turn_event : Result (ℕ × ℕ) AccountFault → Event O S
+  turn_event (Ok answer) = turned answer.0 answer.1
+  turn_event (Err fault) = refused turn fault
 
   -- a figure of the month's sums, added up over the accepted enters
   abbrev pub in_all : (MonthSums → ℕ) → History O S → ℕ
@@ -62,12 +62,12 @@ module _ {O S : Type 0} where
   reached m₀ (refused call fault ∷ h) = reached m₀ h
 
   -- the state of the month reached, by what was last accepted
-  abbrev pub month-state : History O S → MonthState
-  month-state [] = Waiting
-  month-state (entered sums ∷ h) = Entered
-  month-state (settled rule lines answer ∷ h) = Settled
-  month-state (turned refunded lost ∷ h) = Waiting
-  month-state (refused call fault ∷ h) = month-state h
+  abbrev pub month_state : History O S → MonthState
+  month_state [] = Waiting
+  month_state (entered sums ∷ h) = Entered
+  month_state (settled rule lines answer ∷ h) = Settled
+  month_state (turned refunded lost ∷ h) = Waiting
+  month_state (refused call fault ∷ h) = month_state h
 
   -- every accepted settlement had a rule that goes oldest first in the month of that settlement
   abbrev pub SettledOldestFirst : ℕ → History O S → Type 0

@@ -4,9 +4,9 @@ use Rattle.faults.specs.declared.AccountFault.{AccountFault}
 use Rattle.ledger.specs.Rules.{Rule}
 use Rattle.ledger.specs.Ledger.{left_in}
 use Rattle.ledger.specs.History as store
-use Rattle.ledger.specs.Totals as store-totals
+use Rattle.ledger.specs.Totals as store_totals
 use Rattle.ledger.specs.Best.{WentOldestFirst}
-use Rattle.ledger.specs.Promises as store-promise
+use Rattle.ledger.specs.Promises as store_promise
 use Rattle.settlement.specs.Accepted.{NoneRefused}
 use Rattle.settlement.specs.Accounts.{Workings}
 use Rattle.settlement.specs.Accounts.Call.{open_for}
@@ -33,9 +33,9 @@ module _ {O A S Z T : Type 0} (works : Workings O A S Z T) where
   -- the store of a zone has had calls of its own, and all that a store promises holds of them
   pub record StoreKeeps (o : O) (h : History O S) (a : A) (z : Z) : Type 0 where
     pub calls : store.History T
-    pub promised : store-promise.Promised works.kind (works.own_month o) calls (works.store a z)
+    pub promised : store_promise.Promised works.kind (works.own_month o) calls (works.store a z)
     -- what was entered into it is what the accepted enters had for it
-    pub entered_is : store-totals.Entered calls ≡ in_all (λ sums. works.stored sums z) h
+    pub entered_is : store_totals.Entered calls ≡ in_all (λ sums. works.stored sums z) h
     -- the account asks nothing of it that it refuses
     pub none_refused : NoneRefused calls
     -- and its draws went oldest first where the settlements' rules did

@@ -9,7 +9,7 @@ use Rattle.portions.specs.Slots.{reads, plain}
 use Rattle.portions.specs.Totals.{total_map}
 use Rattle.ledger.specs.Rules.{Rule, LawfulRule}
 use Rattle.ledger.specs.Ledger.{has, left_in, lefts}
-use Rattle.ledger.specs.Calls.{draw-refusal, answers, becomes}
+use Rattle.ledger.specs.Calls.{draw_refusal, answers, becomes}
 use Rattle.ledger.specs.Steps.{taking, takings, drawing}
 use Rattle.ledger.proofs.Asked.{draw_met}
 use Rattle.shelf.specs.declared.Shelf.{Shelf}
@@ -67,8 +67,8 @@ module _ {K T : Type 0} (k : Ghosts K T) (s : Shelf K T) (sound : Parts s) (rule
       ap length gave ∙ law.sized s.month w ls ∙ ap length asked ∙ length-map (held s.rows) (λ r. (plain r).left) ∙ length-take-le (in_use s) (lent s) sound.placed
 
   -- the shelf with these rows and totals
-  abbrev pub with-taken : Rows → Totals → Shelf K T
-  with-taken rows' totals' = record { rows = rows'; kind = s.kind; span = s.span; month = s.month; totals = totals' }
+  abbrev pub with_taken : Rows → Totals → Shelf K T
+  with_taken rows' totals' = record { rows = rows'; kind = s.kind; span = s.span; month = s.month; totals = totals' }
 
   module _ (n : ℕ) (summed : n ≡ sum ns) (rows' : Rows) (front : map (reads k.term) (held rows') ≡ taking ns (map (reads k.term) (held s.rows))) where
     taken_all : n + left_in (map plain (held rows')) ≡ left_in (kept s)
@@ -90,7 +90,7 @@ module _ {K T : Type 0} (k : Ghosts K T) (s : Shelf K T) (sound : Parts s) (rule
     same_has =
         sym (has_plain k.term s.month (held rows')) ∙ ap (has s.month) front ∙ drawn_has s.month (map (reads k.term) (held s.rows)) ns ∙ has_plain k.term s.month (held s.rows)
 
-    drawn_state : (ledger_of k s).opened ≡ true → ledger_of k (with-taken rows' (more_used s.totals n)) ≡ drawing (takings rule w (ledger_of k s)) (ledger_of k s)
+    drawn_state : (ledger_of k s).opened ≡ true → ledger_of k (with_taken rows' (more_used s.totals n)) ≡ drawing (takings rule w (ledger_of k s)) (ledger_of k s)
     drawn_state o =
         let e = summed ∙ ap sum gave_takings in
         let q = front ∙ ap (λ zs. taking zs (map (reads k.term) (held s.rows))) gave_takings in
@@ -98,7 +98,7 @@ module _ {K T : Type 0} (k : Ghosts K T) (s : Shelf K T) (sound : Parts s) (rule
 
     module _ (filled : rows'.filled ≡ in_use s) (long : length rows'.slots.now ≡ room s) (rest : drop (in_use s) rows'.slots.now ≡ drop (in_use s) (lent s))
         (lender : rows'.slots.ghost_name ≡ s.rows.slots.ghost_name) where
-      drawn_sound : Parts (with-taken rows' (more_used s.totals n))
+      drawn_sound : Parts (with_taken rows' (more_used s.totals n))
       drawn_sound = record {
         placed = omega (arith, filled, long, sound.placed);
         roomy = omega (arith, long, sound.roomy);
@@ -110,15 +110,15 @@ module _ {K T : Type 0} (k : Ghosts K T) (s : Shelf K T) (sound : Parts s) (rule
       }
 
       -- where nothing refuses it, a draw takes what the rule gives
-      pub drawn : draw-refusal w (ledger_of k s) ≡ None → (totals' : Totals) → totals' ≡ more_used s.totals n →
-          Outcome k s (with-taken rows' totals') (draw-refusal w (ledger_of k s)) (drawing (takings rule w (ledger_of k s)) (ledger_of k s)) (sum (takings rule w (ledger_of k s))) (Ok n)
+      pub drawn : draw_refusal w (ledger_of k s) ≡ None → (totals' : Totals) → totals' ≡ more_used s.totals n →
+          Outcome k s (with_taken rows' totals') (draw_refusal w (ledger_of k s)) (drawing (takings rule w (ledger_of k s)) (ledger_of k s)) (sum (takings rule w (ledger_of k s))) (Ok n)
       drawn none totals' counted =
           let l = ledger_of k s in
           let new = drawing (takings rule w l) l in
-          subst (λ x. Outcome k s (with-taken rows' x) (draw-refusal w l) new (sum (takings rule w l)) (Ok n)) (sym counted)
+          subst (λ x. Outcome k s (with_taken rows' x) (draw_refusal w l) new (sum (takings rule w l)) (Ok n)) (sym counted)
           (record {
             answer = ap Ok (summed ∙ ap sum gave_takings) ∙ ap (λ x. answers x (sum (takings rule w l))) (sym none);
             state = drawn_state (draw_met w l none).is_open ∙ ap (λ x. becomes x new l) (sym none);
-            slots = behind s (with-taken rows' (more_used s.totals n)) (omega (arith, filled)) long rest lender;
+            slots = behind s (with_taken rows' (more_used s.totals n)) (omega (arith, filled)) long rest lender;
             sound = whole drawn_sound;
           })

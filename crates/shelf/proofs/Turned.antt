@@ -10,7 +10,7 @@ use Rattle.portions.specs.Totals.{total_map, total_split, total_parts}
 use Rattle.ledger.specs.Kinds.{loss}
 use Rattle.ledger.specs.Ledger.{has, left_in}
 use Rattle.ledger.specs.Calls.{turn_refusal, answers, becomes}
-use Rattle.ledger.specs.Steps.{ends_by, stays-in, refunds, losses, turning}
+use Rattle.ledger.specs.Steps.{ends_by, stays_in, refunds, losses, turning}
 use Rattle.ledger.proofs.Asked.{TurnMet, turn_met}
 use Rattle.shelf.specs.declared.Shelf.{Shelf}
 use Rattle.shelf.specs.declared.rows.Rows.{Rows}
@@ -42,12 +42,12 @@ rises_some p low low' end end' (q ∷ ps) a b h =
 
 -- those that stay as the month m comes are of the months from m - life on.
 rises_later : {T : Type 0} (life m low end end' : ℕ) (ps : List (Portion T)) → m - life ≤ end' → end ≤ end' → rises low end ps ≡ true →
-    rises (m - life) end' (filter (stays-in life m) ps) ≡ true
+    rises (m - life) end' (filter (stays_in life m) ps) ≡ true
 rises_later life m low end end' [] a b h = le-leb (m - life) end' a
 rises_later life m low end end' (q ∷ ps) a b h =
-    let r = rises_some (stays-in life m) (q.month + 1) (q.month + 1) end end' ps (omega arith) b in
+    let r = rises_some (stays_in life m) (q.month + 1) (q.month + 1) end end' ps (omega arith) b in
     let s = rises_later life m (q.month + 1) end end' ps a b in
-    ⊎_elim (λ y. rw y (grind arith)) (λ n. rw n (grind arith)) (cases_Bool (stays-in life m q))
+    ⊎_elim (λ y. rw y (grind arith)) (λ n. rw n (grind arith)) (cases_Bool (stays_in life m q))
 
 module _ {K T : Type 0} (k : Ghosts K T) (m : ℕ) (ss : List Slot) where
   -- the refunds and the losses over the rows are those of the portions
@@ -86,8 +86,8 @@ module _ {K T : Type 0} (k : Ghosts K T) (s : Shelf K T) (sound : Parts s) (rows
   losses_fit = omega (arith, all, sound.balance, totals_small s sound)
 
   -- the shelf in the next month with these rows and totals
-  abbrev pub with-ended : Totals → Shelf K T
-  with-ended totals' = record { rows = rows'; kind = s.kind; span = s.span; month = s.month + 1; totals = totals' }
+  abbrev pub with_ended : Totals → Shelf K T
+  with_ended totals' = record { rows = rows'; kind = s.kind; span = s.span; month = s.month + 1; totals = totals' }
 
   module _ (refunded : r ≡ refunds_in k (s.month + 1) (held s.rows))
       (lost : x ≡ losses_in k (s.month + 1) (held s.rows)) where
@@ -97,11 +97,11 @@ module _ {K T : Type 0} (k : Ghosts K T) (s : Shelf K T) (sound : Parts s) (rows
     losses_are : x ≡ losses (kind_of k) (ledger_of k s)
     losses_are = lost ∙ losses_rows k (s.month + 1) (held s.rows)
 
-    turned_state : (ledger_of k s).opened ≡ true → ledger_of k (with-ended (more_ended s.totals r x)) ≡ turning (kind_of k) (ledger_of k s)
+    turned_state : (ledger_of k s).opened ≡ true → ledger_of k (with_ended (more_ended s.totals r x)) ≡ turning (kind_of k) (ledger_of k s)
     turned_state o =
         let a = refunds_are in
         let b = losses_are in
-        let q = ap (map (reads k.term)) stay ∙ sym (kept_by_map (stays-in k.life (s.month + 1)) (reads k.term) (held s.rows)) in
+        let q = ap (map (reads k.term)) stay ∙ sym (kept_by_map (stays_in k.life (s.month + 1)) (reads k.term) (held s.rows)) in
         simp (o, a, b, q)
 
     rising_turned : (ledger_of k s).opened ≡ true → rises (s.month + 1 + 1 - s.span) (s.month + 1 + 1) (map plain (held rows')) ≡ true
@@ -109,12 +109,12 @@ module _ {K T : Type 0} (k : Ghosts K T) (s : Shelf K T) (sound : Parts s) (rows
         let e = eqb-true s.span (k.life + 1) o in
         let q = rises_later k.life (s.month + 1) (s.month + 1 - s.span) (s.month + 1) (s.month + 1 + 1) (kept s) (omega arith) (omega arith) sound.rising in
         let n : s.month + 1 + 1 - s.span ≡ s.month + 1 - k.life = omega arith in
-        let p = ap (map plain) stay ∙ sym (kept_by_map (stays-in k.life (s.month + 1)) plain (held s.rows)) in
+        let p = ap (map plain) stay ∙ sym (kept_by_map (stays_in k.life (s.month + 1)) plain (held s.rows)) in
         rw (n, p) q
 
     module _ (fewer : rows'.filled ≤ in_use s) (long : length rows'.slots.now ≡ room s) (rest : drop (in_use s) rows'.slots.now ≡ drop (in_use s) (lent s))
         (lender : rows'.slots.ghost_name ≡ s.rows.slots.ghost_name) where
-      turned_sound : TurnMet (ledger_of k s) → Parts (with-ended (more_ended s.totals r x))
+      turned_sound : TurnMet (ledger_of k s) → Parts (with_ended (more_ended s.totals r x))
       turned_sound met = record {
         placed = omega (arith, fewer, long, sound.placed);
         roomy = omega (arith, long, sound.roomy);
@@ -127,15 +127,15 @@ module _ {K T : Type 0} (k : Ghosts K T) (s : Shelf K T) (sound : Parts s) (rows
 
       -- where nothing refuses it, a turn ends the portions past their life
       pub turned : turn_refusal (ledger_of k s) ≡ None → (totals' : Totals) → totals' ≡ more_ended s.totals r x →
-          Outcome {V = ℕ × ℕ} k s (with-ended totals') (turn_refusal (ledger_of k s)) (turning (kind_of k) (ledger_of k s)) (refunds (kind_of k) (ledger_of k s), losses (kind_of k) (ledger_of k s)) (Ok (r, x))
+          Outcome {V = ℕ × ℕ} k s (with_ended totals') (turn_refusal (ledger_of k s)) (turning (kind_of k) (ledger_of k s)) (refunds (kind_of k) (ledger_of k s), losses (kind_of k) (ledger_of k s)) (Ok (r, x))
       turned none totals' counted =
           let l = ledger_of k s in
           let met = turn_met l none in
           let both : ℕ × ℕ = (refunds (kind_of k) l, losses (kind_of k) l) in
-          subst (λ z. Outcome {V = ℕ × ℕ} k s (with-ended z) (turn_refusal l) (turning (kind_of k) l) both (Ok (r, x))) (sym counted)
+          subst (λ z. Outcome {V = ℕ × ℕ} k s (with_ended z) (turn_refusal l) (turning (kind_of k) l) both (Ok (r, x))) (sym counted)
           (record {
             answer = ap (λ z. Ok (z, x)) refunds_are ∙ ap (λ z. Ok (refunds (kind_of k) l, z)) losses_are ∙ ap (λ z. answers z both) (sym none);
             state = turned_state met.is_open ∙ ap (λ z. becomes z (turning (kind_of k) l) l) (sym none);
-            slots = behind s (with-ended (more_ended s.totals r x)) fewer long rest lender;
+            slots = behind s (with_ended (more_ended s.totals r x)) fewer long rest lender;
             sound = whole (turned_sound met);
           })

@@ -4,7 +4,7 @@ use Rattle.portions.specs.declared.Slot.{Slot}
 use Rattle.portions.specs.declared.Kind.{Ghosts}
 use Rattle.portions.specs.Sums.{total}
 use Rattle.portions.specs.Slots.{reads, plain}
-use Rattle.ledger.specs.Steps.{ends_by, stays-in}
+use Rattle.ledger.specs.Steps.{ends_by, stays_in}
 
 -- what the portion in a row refunds at its end
 abbrev pub refund_in : {K T : Type 0} → Ghosts K T → Slot → ℕ
@@ -16,7 +16,7 @@ loss_in k row = (plain row).left - refund_in k row
 
 -- the rows that stay as the month comes
 abbrev pub staying : {K T : Type 0} → Ghosts K T → ℕ → List Slot → List Slot
-staying k month rows = filter (λ row. stays-in k.life month (plain row)) rows
+staying k month rows = filter (λ row. stays_in k.life month (plain row)) rows
 
 -- the rows that end
 abbrev pub ending : {K T : Type 0} → Ghosts K T → ℕ → List Slot → List Slot

@@ -1,7 +1,7 @@
 ghost use Rattle.std.specs.Prelude.{◌≡◌, is_ok};
 ghost use Rattle.ledger.specs.Ledger.{closed};
-ghost use Rattle.ledger.specs.Steps.{open-answer, open_after, enter-answer, enter-after, draw-answer, draw-after, turn-answer, turn-after};
-ghost use Rattle.ledger.specs.History.{enter-event, draw-event, turn-event};
+ghost use Rattle.ledger.specs.Steps.{open_answer, open_after, enter_answer, enter_after, draw_answer, draw_after, turn_answer, turn_after};
+ghost use Rattle.ledger.specs.History.{enter_event, draw_event, turn_event};
 ghost use Rattle.ledger.specs.Promises.{Keeps, OpenKeeps};
 ghost use Rattle.shelf.specs.Held.{lent, room};
 ghost use Rattle.shelf.specs.Reading.{kind_of, ledger_of};
@@ -37,7 +37,7 @@ impl<'a, K: Kind> Shelf<'a, K> {
     // Starts anew in a month, without portions.
     pub fn open(&mut self, month: u16) -> Result<(), StoreFault>
         requires { Sound self.old }
-        ensures answer { result ≡ open-answer (kind_of K.Kind) (room self.old) month (ledger_of K.Kind self.old) }
+        ensures answer { result ≡ open_answer (kind_of K.Kind) (room self.old) month (ledger_of K.Kind self.old) }
         ensures state { ledger_of K.Kind self.new ≡ open_after (kind_of K.Kind) (room self.old) month (ledger_of K.Kind self.old) }
         ensures slots { lent self.new ≡ lent self.old }
         ensures lender { self.new.rows.slots.ghost_name ≡ self.old.rows.slots.ghost_name }
@@ -55,10 +55,10 @@ impl<'a, K: Kind> Shelf<'a, K> {
     // Adds a portion of the current month.
     pub fn enter(&mut self, amount: u32, terms: K::Terms) -> Result<(), StoreFault>
         requires { Sound self.old }
-        ensures answer { result ≡ enter-answer (kind_of K.Kind) amount terms (ledger_of K.Kind self.old) }
-        ensures state { ledger_of K.Kind self.new ≡ enter-after (kind_of K.Kind) amount terms (ledger_of K.Kind self.old) }
+        ensures answer { result ≡ enter_answer (kind_of K.Kind) amount terms (ledger_of K.Kind self.old) }
+        ensures state { ledger_of K.Kind self.new ≡ enter_after (kind_of K.Kind) amount terms (ledger_of K.Kind self.old) }
         ensures slots { Accounted (is_ok result) self.old self.new }
-        ensures promised { Keeps (kind_of K.Kind) (ledger_of K.Kind self.old) (enter-event amount terms result) (ledger_of K.Kind self.new) }
+        ensures promised { Keeps (kind_of K.Kind) (ledger_of K.Kind self.old) (enter_event amount terms result) (ledger_of K.Kind self.new) }
         ensures sound { Sound self.new }
     {
         let portion = self.admit(amount, terms)?;
@@ -70,10 +70,10 @@ impl<'a, K: Kind> Shelf<'a, K> {
     // Takes what the rule gives: the sum taken.
     pub fn draw<R: Rule>(&mut self, rule: &R, wanted: u32) -> Result<u64, StoreFault>
         requires { Sound self.old }
-        ensures answer { result ≡ draw-answer (kind_of K.Kind) (R.Rule.gives rule.now) wanted (ledger_of K.Kind self.old) }
-        ensures state { ledger_of K.Kind self.new ≡ draw-after (kind_of K.Kind) (R.Rule.gives rule.now) wanted (ledger_of K.Kind self.old) }
+        ensures answer { result ≡ draw_answer (kind_of K.Kind) (R.Rule.gives rule.now) wanted (ledger_of K.Kind self.old) }
+        ensures state { ledger_of K.Kind self.new ≡ draw_after (kind_of K.Kind) (R.Rule.gives rule.now) wanted (ledger_of K.Kind self.old) }
         ensures slots { Accounted (is_ok result) self.old self.new }
-        ensures promised { Keeps (kind_of K.Kind) (ledger_of K.Kind self.old) (draw-event (R.Rule.gives rule.now) wanted result) (ledger_of K.Kind self.new) }
+        ensures promised { Keeps (kind_of K.Kind) (ledger_of K.Kind self.old) (draw_event (R.Rule.gives rule.now) wanted result) (ledger_of K.Kind self.new) }
         ensures sound { Sound self.new }
     {
         self.may_draw(wanted)?;
@@ -88,10 +88,10 @@ impl<'a, K: Kind> Shelf<'a, K> {
     // Raises the month by one, and ends the portions past their life: their refunds and losses, summed.
     pub fn turn(&mut self) -> Result<(u64, u64), StoreFault>
         requires { Sound self.old }
-        ensures answer { result ≡ turn-answer (kind_of K.Kind) (ledger_of K.Kind self.old) }
-        ensures state { ledger_of K.Kind self.new ≡ turn-after (kind_of K.Kind) (ledger_of K.Kind self.old) }
+        ensures answer { result ≡ turn_answer (kind_of K.Kind) (ledger_of K.Kind self.old) }
+        ensures state { ledger_of K.Kind self.new ≡ turn_after (kind_of K.Kind) (ledger_of K.Kind self.old) }
         ensures slots { Accounted (is_ok result) self.old self.new }
-        ensures promised { Keeps (kind_of K.Kind) (ledger_of K.Kind self.old) (turn-event result) (ledger_of K.Kind self.new) }
+        ensures promised { Keeps (kind_of K.Kind) (ledger_of K.Kind self.old) (turn_event result) (ledger_of K.Kind self.new) }
         ensures sound { Sound self.new }
     {
         self.may_turn()?;

@@ -1,7 +1,7 @@
 ghost use Rattle.std.specs.Prelude.{◌≡◌, ◌≤◌};
 ghost use Rattle.portions.specs.Made.{answered};
 ghost use Rattle.portions.specs.Portions.{fresh};
-ghost use Rattle.ledger.specs.Calls.{answers, open_refusal, enter_refusal, draw-refusal, turn_refusal};
+ghost use Rattle.ledger.specs.Calls.{answers, open_refusal, enter_refusal, draw_refusal, turn_refusal};
 ghost use Rattle.shelf.specs.Held.{room, in_use};
 ghost use Rattle.shelf.specs.Reading.{kind_of, ledger_of};
 
@@ -55,7 +55,7 @@ impl<'a, K: Kind> Shelf<'a, K> {
 
     // Refuses a draw that is not to be.
     pub(crate) fn may_draw(&self, wanted: u32) -> Result<(), StoreFault>
-        ensures { result ≡ answers (draw-refusal wanted (ledger_of K.Kind self.now)) tt }
+        ensures { result ≡ answers (draw_refusal wanted (ledger_of K.Kind self.now)) tt }
     {
         if !self.is_open() {
             return Err(StoreFault::NotOpen);

@@ -1,8 +1,8 @@
 ghost use Rattle.std.specs.Prelude.{◌≡◌, length, is_ok};
 ghost use Rattle.std.specs.List.{slice_get};
 ghost use Rattle.ledger.specs.Ledger.{closed};
-ghost use Rattle.ledger.specs.Steps.{open-answer, open_after, enter-answer, enter-after, draw-answer, draw-after, turn-answer, turn-after};
-ghost use Rattle.ledger.specs.History.{enter-event, draw-event, turn-event};
+ghost use Rattle.ledger.specs.Steps.{open_answer, open_after, enter_answer, enter_after, draw_answer, draw_after, turn_answer, turn_after};
+ghost use Rattle.ledger.specs.History.{enter_event, draw_event, turn_event};
 ghost use Rattle.ledger.specs.Promises.{Keeps, OpenKeeps};
 ghost use Rattle.shelf.specs.Held.{lent, room};
 ghost use Rattle.shelf.specs.Reading.{kind_of, ledger_of, ledger_totals, told};
@@ -28,7 +28,7 @@ impl<'a, K: Kind> Store<'a, K> {
 
     // Starts anew in a month from 47 to 1,199, without portions and with totals 0.
     pub fn open(&mut self, month: u16) -> Result<(), StoreFault>
-        ensures answer { result ≡ open-answer (kind_of K.Kind) (room self.old.shelf) month (ledger_of K.Kind self.old.shelf) }
+        ensures answer { result ≡ open_answer (kind_of K.Kind) (room self.old.shelf) month (ledger_of K.Kind self.old.shelf) }
         ensures state { ledger_of K.Kind self.new.shelf ≡ open_after (kind_of K.Kind) (room self.old.shelf) month (ledger_of K.Kind self.old.shelf) }
         ensures slots { lent self.new.shelf ≡ lent self.old.shelf }
         ensures lender { self.new.shelf.rows.slots.ghost_name ≡ self.old.shelf.rows.slots.ghost_name }
@@ -39,30 +39,30 @@ impl<'a, K: Kind> Store<'a, K> {
 
     // Adds a portion of the current month, also of amount 0.
     pub fn enter(&mut self, amount: u32, terms: K::Terms) -> Result<(), StoreFault>
-        ensures answer { result ≡ enter-answer (kind_of K.Kind) amount terms (ledger_of K.Kind self.old.shelf) }
-        ensures state { ledger_of K.Kind self.new.shelf ≡ enter-after (kind_of K.Kind) amount terms (ledger_of K.Kind self.old.shelf) }
+        ensures answer { result ≡ enter_answer (kind_of K.Kind) amount terms (ledger_of K.Kind self.old.shelf) }
+        ensures state { ledger_of K.Kind self.new.shelf ≡ enter_after (kind_of K.Kind) amount terms (ledger_of K.Kind self.old.shelf) }
         ensures slots { Accounted (is_ok result) self.old.shelf self.new.shelf }
-        ensures promised { Keeps (kind_of K.Kind) (ledger_of K.Kind self.old.shelf) (enter-event amount terms result) (ledger_of K.Kind self.new.shelf) }
+        ensures promised { Keeps (kind_of K.Kind) (ledger_of K.Kind self.old.shelf) (enter_event amount terms result) (ledger_of K.Kind self.new.shelf) }
     {
         self.shelf.enter(amount, terms)
     }
 
     // Takes what the rule gives: the sum taken.
     pub fn draw<R: Rule>(&mut self, rule: &R, wanted: u32) -> Result<u64, StoreFault>
-        ensures answer { result ≡ draw-answer (kind_of K.Kind) (R.Rule.gives rule.now) wanted (ledger_of K.Kind self.old.shelf) }
-        ensures state { ledger_of K.Kind self.new.shelf ≡ draw-after (kind_of K.Kind) (R.Rule.gives rule.now) wanted (ledger_of K.Kind self.old.shelf) }
+        ensures answer { result ≡ draw_answer (kind_of K.Kind) (R.Rule.gives rule.now) wanted (ledger_of K.Kind self.old.shelf) }
+        ensures state { ledger_of K.Kind self.new.shelf ≡ draw_after (kind_of K.Kind) (R.Rule.gives rule.now) wanted (ledger_of K.Kind self.old.shelf) }
         ensures slots { Accounted (is_ok result) self.old.shelf self.new.shelf }
-        ensures promised { Keeps (kind_of K.Kind) (ledger_of K.Kind self.old.shelf) (draw-event (R.Rule.gives rule.now) wanted result) (ledger_of K.Kind self.new.shelf) }
+        ensures promised { Keeps (kind_of K.Kind) (ledger_of K.Kind self.old.shelf) (draw_event (R.Rule.gives rule.now) wanted result) (ledger_of K.Kind self.new.shelf) }
     {
         self.shelf.draw(rule, wanted)
     }
 
     // Raises the month by one, and ends the portions past their life: their refunds and losses, summed.
     pub fn turn(&mut self) -> Result<(u64, u64), StoreFault>
-        ensures answer { result ≡ turn-answer (kind_of K.Kind) (ledger_of K.Kind self.old.shelf) }
-        ensures state { ledger_of K.Kind self.new.shelf ≡ turn-after (kind_of K.Kind) (ledger_of K.Kind self.old.shelf) }
+        ensures answer { result ≡ turn_answer (kind_of K.Kind) (ledger_of K.Kind self.old.shelf) }
+        ensures state { ledger_of K.Kind self.new.shelf ≡ turn_after (kind_of K.Kind) (ledger_of K.Kind self.old.shelf) }
         ensures slots { Accounted (is_ok result) self.old.shelf self.new.shelf }
-        ensures promised { Keeps (kind_of K.Kind) (ledger_of K.Kind self.old.shelf) (turn-event result) (ledger_of K.Kind self.new.shelf) }
+        ensures promised { Keeps (kind_of K.Kind) (ledger_of K.Kind self.old.shelf) (turn_event result) (ledger_of K.Kind self.new.shelf) }
     {
         self.shelf.turn()
     }

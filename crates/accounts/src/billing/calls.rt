@@ -1,7 +1,7 @@
 ghost use Rattle.std.specs.Prelude.{◌≡◌, length, is_ok};
 ghost use Rattle.settlement.specs.Answers.{answers};
-ghost use Rattle.settlement.specs.Steps.{open-answer, open_after, enter-answer, enter-after, settle-answer, settle-after, settle-lines, turn-answer, turn-after};
-ghost use Rattle.settlement.specs.History.{enter-event, settle-event, turn-event};
+ghost use Rattle.settlement.specs.Steps.{open_answer, open_after, enter_answer, enter_after, settle_answer, settle_after, settle_lines, turn_answer, turn_after};
+ghost use Rattle.settlement.specs.History.{enter_event, settle_event, turn_event};
 ghost use Rattle.settlement.specs.Promises.{Keeps, OpenKeeps};
 ghost use Rattle.settlement.specs.Billing.{billing, closed, open_refusal};
 ghost use Rattle.shelf.specs.Held.{lent, room};
@@ -55,7 +55,7 @@ impl<'a> Billing<'a> {
 
     // Starts anew in a month, with the percentage that caps refunds.
     pub fn open(&mut self, month: u16, percentage: u8) -> Result<(), AccountFault>
-        ensures answer { result ≡ open-answer billing (bill_opening (room self.old.store) month percentage) (billed self.old) }
+        ensures answer { result ≡ open_answer billing (bill_opening (room self.old.store) month percentage) (billed self.old) }
         ensures state { billed self.new ≡ open_after billing (bill_opening (room self.old.store) month percentage) (billed self.old) }
         ensures slots { SameSlots self.old.store self.new.store }
         ensures promised { OpenKeeps billing (billed self.old) (bill_opening (room self.old.store) month percentage) result (billed self.new) }
@@ -71,10 +71,10 @@ impl<'a> Billing<'a> {
 
     // Enters a month's sums: the deposit into the store, and the bill. A refusal hands the sums back.
     pub fn enter(&mut self, sums: MonthSums) -> Result<(), Returned>
-        ensures answer { result ≡ enter-answer billing sums (billed self.old) }
-        ensures state { billed self.new ≡ enter-after billing sums (billed self.old) }
+        ensures answer { result ≡ enter_answer billing sums (billed self.old) }
+        ensures state { billed self.new ≡ enter_after billing sums (billed self.old) }
         ensures slots { Accounted (is_ok result) self.old.store self.new.store }
-        ensures promised { Keeps billing (billed self.old) (enter-event sums result) (billed self.new) }
+        ensures promised { Keeps billing (billed self.old) (enter_event sums result) (billed self.new) }
     {
         match self.standing().may_enter(sums.month()) {
             Err(fault) => Err(Returned { fault, sums }),
@@ -93,11 +93,11 @@ impl<'a> Billing<'a> {
 
     // Draws the bill on the deposits by the rule, and writes a line for each open deposit.
     pub fn settle<R: Rule>(&mut self, rule: &R, lines: &mut [Line]) -> Result<Payment, AccountFault>
-        ensures answer { result ≡ settle-answer billing (R.Rule.gives rule.now) (length lines.old) (billed self.old) }
-        ensures state { billed self.new ≡ settle-after billing (R.Rule.gives rule.now) (length lines.old) (billed self.old) }
-        ensures lines { lines.new ≡ settle-lines billing (R.Rule.gives rule.now) (billed self.old) lines.old }
+        ensures answer { result ≡ settle_answer billing (R.Rule.gives rule.now) (length lines.old) (billed self.old) }
+        ensures state { billed self.new ≡ settle_after billing (R.Rule.gives rule.now) (length lines.old) (billed self.old) }
+        ensures lines { lines.new ≡ settle_lines billing (R.Rule.gives rule.now) (billed self.old) lines.old }
         ensures slots { Accounted (is_ok result) self.old.store self.new.store }
-        ensures promised { Keeps billing (billed self.old) (settle-event (R.Rule.gives rule.now) (length lines.old) result) (billed self.new) }
+        ensures promised { Keeps billing (billed self.old) (settle_event (R.Rule.gives rule.now) (length lines.old) result) (billed self.new) }
     {
         let next = self.standing().may_settle(FEWEST_LINES, lines.len())?;
         let before = self.store.lefts();
@@ -111,10 +111,10 @@ impl<'a> Billing<'a> {
 
     // Turns the store to the next month: the refunds and losses, summed.
     pub fn turn(&mut self) -> Result<(u64, u64), AccountFault>
-        ensures answer { result ≡ turn-answer billing (billed self.old) }
-        ensures state { billed self.new ≡ turn-after billing (billed self.old) }
+        ensures answer { result ≡ turn_answer billing (billed self.old) }
+        ensures state { billed self.new ≡ turn_after billing (billed self.old) }
         ensures slots { Accounted (is_ok result) self.old.store self.new.store }
-        ensures promised { Keeps billing (billed self.old) (turn-event result) (billed self.new) }
+        ensures promised { Keeps billing (billed self.old) (turn_event result) (billed self.new) }
     {
         let next = self.standing().may_turn()?;
         let ended = turn_store(&mut self.store);

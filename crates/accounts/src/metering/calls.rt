@@ -2,8 +2,8 @@ ghost use Rattle.std.specs.Prelude.{◌≡◌, ◌+◌, ◌-◌, ◌≤◌, true
 ghost use Rattle.settlement.specs.Table.{period_of};
 ghost use Rattle.settlement.specs.Zones.{each_two};
 ghost use Rattle.settlement.specs.Answers.{answers};
-ghost use Rattle.settlement.specs.Steps.{open-answer, open_after, enter-answer, enter-after, settle-answer, settle-after, settle-lines, turn-answer, turn-after};
-ghost use Rattle.settlement.specs.History.{enter-event, settle-event, turn-event};
+ghost use Rattle.settlement.specs.Steps.{open_answer, open_after, enter_answer, enter_after, settle_answer, settle_after, settle_lines, turn_answer, turn_after};
+ghost use Rattle.settlement.specs.History.{enter_event, settle_event, turn_event};
 ghost use Rattle.settlement.specs.Promises.{Keeps, OpenKeeps};
 ghost use Rattle.settlement.specs.Metering.{metering, closed, open_refusal, coefficient_for, or_monthly, split_by_zone};
 ghost use Rattle.shelf.specs.Held.{lent};
@@ -114,7 +114,7 @@ impl<'a> Metering<'a> {
 
     // Starts anew in a month, with a power in W and a period of so many months.
     pub fn open(&mut self, month: u16, power: u32, months: u8) -> Result<(), AccountFault>
-        ensures answer { result ≡ open-answer metering (meter_opening (fewest self.old.stores) month power months) (metered self.old) }
+        ensures answer { result ≡ open_answer metering (meter_opening (fewest self.old.stores) month power months) (metered self.old) }
         ensures state { metered self.new ≡ open_after metering (meter_opening (fewest self.old.stores) month power months) (metered self.old) }
         ensures slots { EachSame self.old.stores self.new.stores }
         ensures promised { OpenKeeps metering (metered self.old) (meter_opening (fewest self.old.stores) month power months) result (metered self.new) }
@@ -131,10 +131,10 @@ impl<'a> Metering<'a> {
 
     // Enters a month's sums: each zone's export into its store, and its import to what is pending. A refusal hands the sums back.
     pub fn enter(&mut self, sums: MonthSums) -> Result<(), Returned>
-        ensures answer { result ≡ enter-answer metering sums (metered self.old) }
-        ensures state { metered self.new ≡ enter-after metering sums (metered self.old) }
+        ensures answer { result ≡ enter_answer metering sums (metered self.old) }
+        ensures state { metered self.new ≡ enter_after metering sums (metered self.old) }
         ensures slots { EachAccounted (is_ok result) self.old.stores self.new.stores }
-        ensures promised { Keeps metering (metered self.old) (enter-event sums result) (metered self.new) }
+        ensures promised { Keeps metering (metered self.old) (enter_event sums result) (metered self.new) }
     {
         match self.standing().may_enter(sums.month()) {
             Err(fault) => Err(Returned { fault, sums }),
@@ -157,11 +157,11 @@ impl<'a> Metering<'a> {
         rule: &R,
         lines: &mut [Line],
     ) -> Result<Settlement, AccountFault>
-        ensures answer { result ≡ settle-answer metering (R.Rule.gives rule.now) (length lines.old) (metered self.old) }
-        ensures state { metered self.new ≡ settle-after metering (R.Rule.gives rule.now) (length lines.old) (metered self.old) }
-        ensures lines { lines.new ≡ settle-lines metering (R.Rule.gives rule.now) (metered self.old) lines.old }
+        ensures answer { result ≡ settle_answer metering (R.Rule.gives rule.now) (length lines.old) (metered self.old) }
+        ensures state { metered self.new ≡ settle_after metering (R.Rule.gives rule.now) (length lines.old) (metered self.old) }
+        ensures lines { lines.new ≡ settle_lines metering (R.Rule.gives rule.now) (metered self.old) lines.old }
         ensures slots { EachAccounted (is_ok result) self.old.stores self.new.stores }
-        ensures promised { Keeps metering (metered self.old) (settle-event (R.Rule.gives rule.now) (length lines.old) result) (metered self.new) }
+        ensures promised { Keeps metering (metered self.old) (settle_event (R.Rule.gives rule.now) (length lines.old) result) (metered self.new) }
     {
         let next = self.standing().may_settle(FEWEST_LINES, lines.len())?;
         let before = lefts_of(&self.stores);
@@ -180,10 +180,10 @@ impl<'a> Metering<'a> {
 
     // Turns the three stores to the next month: the refunds and losses, summed.
     pub fn turn(&mut self) -> Result<(u64, u64), AccountFault>
-        ensures answer { result ≡ turn-answer metering (metered self.old) }
-        ensures state { metered self.new ≡ turn-after metering (metered self.old) }
+        ensures answer { result ≡ turn_answer metering (metered self.old) }
+        ensures state { metered self.new ≡ turn_after metering (metered self.old) }
         ensures slots { EachAccounted (is_ok result) self.old.stores self.new.stores }
-        ensures promised { Keeps metering (metered self.old) (turn-event result) (metered self.new) }
+        ensures promised { Keeps metering (metered self.old) (turn_event result) (metered self.new) }
     {
         let next = self.standing().may_turn()?;
         let ended = turn_stores(&mut self.stores);

@@ -1,5 +1,5 @@
 use Rattle.portions.specs.Sums.{sum}
-use Rattle.ledger.specs.Calls.{draw-refusal}
+use Rattle.ledger.specs.Calls.{draw_refusal}
 use Rattle.ledger.specs.Steps.{takings, drawing}
 use Rattle.ledger.proofs.Keeps.{keeps_draw}
 use Rattle.shelf.specs.Reading.{ledger_of}
@@ -19,7 +19,7 @@ returns-in_err-may_draw g c =
     let law = lawful g.K.Kind g.met.K.Kind.lasting g.met.K.Kind.short g.met.K.Kind.within in
     let keeps = lawful_rule gives (g.met.R.Rule.sized rule) (g.met.R.Rule.bounded rule) (g.met.R.Rule.full rule) in
     let xs = takings gives c.args.wanted l in
-    let out = refused g.K.Kind s c.requires (draw-refusal c.args.wanted l) (drawing xs l) _ tt c.in_err-may_draw.ensures (sum xs) c.from_residual.result c.from_residual.ensures.1 in
+    let out = refused g.K.Kind s c.requires (draw_refusal c.args.wanted l) (drawing xs l) _ tt c.in_err-may_draw.ensures (sum xs) c.from_residual.result c.from_residual.ensures.1 in
     record { answer = out.answer; state = out.state; slots = out.slots; promised = keeps_draw _ law _ _ gives keeps _ _ out.answer out.state; sound = c.requires }
 
 pub lefts-left-requires : goal.lefts-left-requires
@@ -53,7 +53,7 @@ returns g c =
     let gives = g.R.Rule.gives rule in
     let law = lawful g.K.Kind g.met.K.Kind.lasting g.met.K.Kind.short g.met.K.Kind.within in
     let keeps = lawful_rule gives (g.met.R.Rule.sized rule) (g.met.R.Rule.bounded rule) (g.met.R.Rule.full rule) in
-    let none = accepted (draw-refusal c.args.wanted l) tt tt c.in_ok-may_draw.ensures in
+    let none = accepted (draw_refusal c.args.wanted l) tt tt c.in_ok-may_draw.ensures in
     let e = c.take_each.ensures in
     let out =
     drawn g.K.Kind s (parts s c.requires) gives keeps c.args.wanted _ _ c.lefts-left.ensures c.give-takings.ensures _ c.total-sum.ensures c.take_each.new.self e.front
