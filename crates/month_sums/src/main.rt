@@ -8,6 +8,7 @@ use crate::sums::sums_of;
 use crate::table::Table;
 use std::alloc::Global;
 use std::io;
+use std::process::ExitCode;
 
 mod complaint;
 mod input;
@@ -35,10 +36,10 @@ fn run(rt: &HostRuntime) -> Result<(), Complaint> {
     rt.print(table.as_str()).or(Err(Complaint::Unwritable))
 }
 
-fn main(rt: HostRuntime) -> Result<(), Complaint> {
-    let result = run(&rt);
-    if let Err(complaint) = &result {
-        let _ = eprintln!(rt; "{complaint}");
-    }
-    result
+fn main(rt: HostRuntime) -> ExitCode {
+    let Err(complaint) = run(&rt) else {
+        return ExitCode::SUCCESS;
+    };
+    let _ = eprintln!(rt; "{complaint}");
+    ExitCode::FAILURE
 }
