@@ -10,7 +10,6 @@ ghost use Rattle.portions.specs.Made.{answered, made};
 use faults::StoreFault;
 
 pub mod amounts;
-mod amounts_calls;
 pub mod dated;
 pub mod deposit;
 pub mod energy;
