@@ -4,6 +4,14 @@ ghost use Rattle.portions.specs.Listed.{listed};
 
 use crate::amounts::Amounts;
 
+impl Default for Amounts {
+    ghost is_default = { λ a. listed a ≡ [] };
+
+    fn default() -> Amounts {
+        Amounts::new()
+    }
+}
+
 impl Amounts {
     // No amounts yet.
     pub fn new() -> Amounts
