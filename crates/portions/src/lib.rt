@@ -13,6 +13,7 @@ pub mod amounts;
 pub mod dated;
 pub mod deposit;
 pub mod energy;
+pub mod held;
 pub mod oldest_first;
 pub mod proportional;
 pub mod rules;
