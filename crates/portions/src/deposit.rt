@@ -1,10 +1,10 @@
 ghost use Rattle.std.specs.Prelude.{min};
 ghost use Rattle.std.proofs.Common.{rules};
 
-use crate::held::{Held, Terms};
+use crate::terms::{Termed, Terms};
 
 // A month's deposit: its terms are the cap of its refund.
-pub type Deposit = Held<u32>;
+pub type Deposit = Termed<u32>;
 
 impl Terms for u32 {
     const LIFE: u16 = 12;

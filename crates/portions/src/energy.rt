@@ -1,9 +1,9 @@
 ghost use Rattle.std.proofs.Common.{rules};
 
-use crate::held::{Held, Terms};
+use crate::terms::{Termed, Terms};
 
 // A month's energy: no terms, and no refund.
-pub type Energy = Held<()>;
+pub type Energy = Termed<()>;
 
 impl Terms for () {
     const LIFE: u16 = 12;

@@ -13,11 +13,11 @@ pub mod amounts;
 pub mod dated;
 pub mod deposit;
 pub mod energy;
-pub mod held;
 pub mod oldest_first;
 pub mod proportional;
 pub mod rules;
 mod stock;
+pub mod terms;
 
 // The largest amount of a portion.
 pub const LARGEST_AMOUNT: u32 = 100_000_000;

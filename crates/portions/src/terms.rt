@@ -42,12 +42,12 @@ pub trait Terms: Copy {
 
 // A month's portion under some terms.
 #[derive(Clone, Copy)]
-pub struct Held<T> {
+pub struct Termed<T> {
     stock: Stock,
     terms: T,
 }
 
-impl<T: Terms> Kind for Held<T> {
+impl<T: Terms> Kind for Termed<T> {
     type Terms = T;
 
     const LIFE: u16 = T::LIFE;
@@ -72,7 +72,7 @@ impl<T: Terms> Kind for Held<T> {
         T::LIFE
     }
 
-    fn make(month: u16, amount: u32, terms: T) -> Result<Held<T>, StoreFault> {
+    fn make(month: u16, amount: u32, terms: T) -> Result<Termed<T>, StoreFault> {
         if amount > LARGEST_AMOUNT {
             return Err(StoreFault::AmountTooLarge);
         }
@@ -81,11 +81,11 @@ impl<T: Terms> Kind for Held<T> {
             entered: amount,
             left: amount,
         };
-        Ok(Held { stock, terms })
+        Ok(Termed { stock, terms })
     }
 
-    fn of(slot: &Slot) -> Held<T> {
-        Held {
+    fn of(slot: &Slot) -> Termed<T> {
+        Termed {
             stock: Stock::of(slot),
             terms: T::of(slot.terms),
         }
