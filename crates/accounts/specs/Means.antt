@@ -1,8 +1,7 @@
 -- What the stores inside an account mean.
 use Rattle.std.specs.Prelude.{ℕ, min}
 use Rattle.portions.specs.declared.Kind.{Ghosts}
-use Rattle.portions.specs.declared.energy.Energy.{Energy}
-use Rattle.portions.specs.declared.deposit.Deposit.{Deposit}
+use Rattle.portions.specs.declared.terms.Termed.{Termed}
 use Rattle.ledger.specs.Ledger.{Ledger}
 use Rattle.shelf.specs.declared.Shelf.{Shelf}
 use Rattle.shelf.specs.Held.{room}
@@ -13,26 +12,26 @@ use Rattle.settlement.specs.Metering.{Course}
 
 -- a shelf of energy
 abbrev pub EnergyShelf : Type 0
-EnergyShelf = Shelf Energy (Unit {0})
+EnergyShelf = Shelf (Termed (Unit {0})) (Unit {0})
 
 -- a shelf of deposits
 abbrev pub DepositShelf : Type 0
-DepositShelf = Shelf Deposit ℕ
+DepositShelf = Shelf (Termed ℕ) ℕ
 
 -- the kind of energy, as the code has it
-abbrev pub energy_kind : Ghosts Energy (Unit {0})
+abbrev pub energy_kind : Ghosts (Termed (Unit {0})) (Unit {0})
 energy_kind = record {
   life = 12;
-  means = λ p. record { month = p.stock.month; entered = p.stock.entered; left = p.stock.left; terms = tt };
+  means = λ p. record { month = p.stock.month; entered = p.stock.entered; left = p.stock.left; terms = p.terms };
   term = λ s. tt;
   refund = λ p. 0;
 }
 
 -- the kind of deposits, as the code has it
-abbrev pub deposit_kind : Ghosts Deposit ℕ
+abbrev pub deposit_kind : Ghosts (Termed ℕ) ℕ
 deposit_kind = record {
   life = 12;
-  means = λ p. record { month = p.stock.month; entered = p.stock.entered; left = p.stock.left; terms = p.«cap» };
+  means = λ p. record { month = p.stock.month; entered = p.stock.entered; left = p.stock.left; terms = p.terms };
   term = λ s. s.terms;
   refund = λ p. min p.terms p.left;
 }
