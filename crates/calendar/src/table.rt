@@ -1,5 +1,5 @@
 // The days before each month, and the rules of its length and of the change of the clocks.
-ghost use Rattle.std.specs.Prelude.{◌≡◌, ◌*◌, ◌<◌, ◌≤◌, T};
+ghost use Rattle.std.specs.Prelude.{◌≡◌, ◌*◌, ◌%◌, ◌<◌, ◌≤◌, Some, None, T};
 ghost use Rattle.calendar.specs.Calendar.{days_before_month, is_last_sunday, leap_year, days_of_month, steps, weekday};
 ghost use Rattle.calendar.specs.Hour.{hours_at_change};
 
@@ -102,59 +102,81 @@ fn table() -> &'static [u16; 1200]
     &DAYS_BEFORE
 }
 
-// Days from 1 January 2016 to the first of `month`.
-pub(crate) fn days_before(month: u16) -> u16
-    requires { month < 1200 }
-    ensures value { result ≡ days_before_month month }
-    ensures bound { result ≤ 31 * month }
-{
-    table()[month as usize]
-}
-
 fn is_leap(year: u16) -> bool
     ensures { result ≡ leap_year year }
 {
     (year % 4 == 0 && year % 100 != 0) || year % 400 == 0
 }
 
-// The days of `month`.
-pub(crate) fn month_days(month: u16) -> u8
-    requires { month < 1200 }
-    ensures value { result ≡ days_of_month month }
-    ensures bounds { (28 ≤ result) × (result ≤ 31) }
-{
-    match month % 12 {
-        1 => { if is_leap(2016 + month / 12) { 29 } else { 28 } }
-        3 | 5 | 8 | 10 => 30,
-        _ => 31,
+// The number of a month, from 0 for January 2016 to 1,199 for December 2115.
+#[derive(Clone, Copy)]
+pub(crate) struct MonthNumber {
+    pub(crate) value: u16,
+    ghost dated: { value < 1200 },
+}
+
+impl MonthNumber {
+    // The number, or none past December 2115.
+    pub(crate) fn new(value: u16) -> Option<MonthNumber>
+        ensures { elim result [ Some m ↦ m.value ≡ value | None ↦ 1200 ≤ value ] }
+    {
+        if value >= 1200 {
+            return None;
+        }
+        Some(MonthNumber { value })
     }
-}
 
-// The last Sunday of `month`, days counted from 0.
-pub(crate) fn last_sunday(month: u16) -> u8
-    requires { month < 1200 }
-    ensures { T (is_last_sunday month result) × (result < days_of_month month) }
-{
-    let days = month_days(month);
-    let last = (days_before(month) + u16::from(days) + 3) % 7;
-    days - 1 - ((last + 1) % 7) as u8
-}
+    // Days from 1 January 2016 to the first of the month.
+    #[tactic(auto, using(crate::proofs::Steps::entry, crate::proofs::Steps::at_most))]
+    fn days_before(self) -> u16
+        ensures value { result ≡ days_before_month self.value }
+        ensures bound { result ≤ 31 * self.value }
+    {
+        table()[usize::from(self.value)]
+    }
 
-// The weekday of the first of `month`, Monday 0.
-pub(crate) fn first_weekday(month: u16) -> u8
-    requires { month < 1200 }
-    ensures { result ≡ weekday month 0 }
-{
-    ((days_before(month) + 4) % 7) as u8
-}
+    // The days of the month.
+    pub(crate) fn days(self) -> u8
+        ensures value { result ≡ days_of_month self.value }
+        ensures bounds { (28 ≤ result) × (result ≤ 31) }
+    {
+        match self.value % 12 {
+            1 => {
+                if is_leap(2016 + self.value / 12) {
+                    29
+                } else {
+                    28
+                }
+            }
+            3 | 5 | 8 | 10 => 30,
+            _ => 31,
+        }
+    }
 
-// The hours of the day on which a calendar month changes its clocks.
-pub(crate) fn change_hours(calendar_month: u16) -> u8
-    ensures { result ≡ hours_at_change calendar_month }
-{
-    match calendar_month {
-        2 => 23,
-        9 => 25,
-        _ => 24,
+    // The last Sunday of the month, days counted from 0.
+    pub(crate) fn last_sunday(self) -> u8
+        ensures { T (is_last_sunday self.value result) × (result < days_of_month self.value) }
+    {
+        let days = self.days();
+        let last = (self.days_before() + u16::from(days) + 3) % 7;
+        days - 1 - ((last + 1) % 7) as u8
+    }
+
+    // The weekday of the first of the month, Monday 0.
+    pub(crate) fn first_weekday(self) -> u8
+        ensures { result ≡ weekday self.value 0 }
+    {
+        ((self.days_before() + 4) % 7) as u8
+    }
+
+    // The hours of the day on which the clocks change.
+    pub(crate) fn change_hours(self) -> u8
+        ensures { result ≡ hours_at_change (self.value % 12) }
+    {
+        match self.value % 12 {
+            2 => 23,
+            9 => 25,
+            _ => 24,
+        }
     }
 }

@@ -5,7 +5,7 @@ ghost use Rattle.calendar.specs.Even.{place_if_even};
 ghost use Rattle.calendar.specs.Hour.{OneHour, hours_at_change, hour_of_place, hour_of, month_hours};
 
 use crate::month::Month;
-use crate::table::{change_hours, first_weekday, last_sunday, month_days};
+use crate::table::MonthNumber;
 
 // An hour of a month: its day from 0, what the clock shows, and whether the day is a Saturday or a Sunday.
 #[derive(Clone, Copy, PartialEq, Eq, Debug)]
@@ -15,36 +15,19 @@ pub struct Hour {
     pub weekend: bool,
 }
 
-// A place as if every day had 24 hours, where the clocks change on the day `sunday`, which has `change` hours.
-fn even_place(sunday: u8, change: u8, place: u16) -> u16
-    requires { (sunday < 31) × (place ≤ 745) }
-    ensures value { result ≡ place_if_even sunday change place }
-    ensures bound { result ≤ 746 }
-{
-    let turn = 24 * u16::from(sunday) + 2;
-    if change == 23 && turn <= place {
-        place + 1
-    } else if change == 25 && turn < place {
-        place - 1
-    } else {
-        place
-    }
-}
-
 impl Month {
-    // The month of a number below 1,200, with all that it keeps.
-    fn of_number(number: u16) -> Month
-        requires { number < 1200 }
-        ensures { result.number ≡ number }
+    // The month of a number, with all that it keeps.
+    #[tactic(auto, using(crate::proofs::Hours::total))]
+    fn of_number(number: MonthNumber) -> Month
+        ensures { result.number ≡ number.value }
     {
-        let days = u16::from(month_days(number));
-        let change = change_hours(number % 12);
-        let hours = 24 * days + u16::from(change) - 24;
+        let change = number.change_hours();
+        let hours = 24 * u16::from(number.days()) + u16::from(change) - 24;
         Month {
-            number,
+            number: number.value,
             hours,
-            first: first_weekday(number),
-            sunday: last_sunday(number),
+            first: number.first_weekday(),
+            sunday: number.last_sunday(),
             change,
         }
     }
@@ -53,10 +36,7 @@ impl Month {
     pub fn new(number: u16) -> Option<Month>
         ensures { elim result [ Some m ↦ (m.number ≡ number) × (number < 1200) | None ↦ 1200 ≤ number ] }
     {
-        if number >= 1200 {
-            return None;
-        }
-        Some(Month::of_number(number))
+        MonthNumber::new(number).map(Month::of_number)
     }
 
     // The number of the month, from 0 for January 2016 to 1,199 for December 2115.
@@ -78,6 +58,7 @@ impl Month {
     }
 
     // The hours of the month: 24 a day, but one less in March and one more in October.
+    #[tactic(auto, using(crate::proofs::Hours::total, crate::proofs::Hours::total_bounds))]
     pub fn hours(&self) -> u16
         ensures value { result ≡ month_hours self.now.number }
         ensures season { result + 24 ≡ 24 * days_of_month self.now.number + hours_at_change (self.now.number % 12) }
@@ -94,14 +75,31 @@ impl Month {
         (u16::from(self.first) + day) % 7 >= 5
     }
 
+    // A place as if every day had 24 hours.
+    fn even_place(&self, place: u16) -> u16
+        requires { place ≤ 745 }
+        ensures value { result ≡ place_if_even self.now.sunday self.now.change place }
+        ensures bound { result ≤ 746 }
+    {
+        let turn = 24 * u16::from(self.sunday) + 2;
+        if self.change == 23 && turn <= place {
+            place + 1
+        } else if self.change == 25 && turn < place {
+            place - 1
+        } else {
+            place
+        }
+    }
+
     // The hour at a place inside the month.
+    #[tactic(auto, using(crate::proofs::Hours::total_bounds))]
     fn hour_inside(&self, place: u16) -> Hour
         requires { place < month_hours self.now.number }
         ensures value { result ≡ hour_of_place self.now.number place }
         ensures one { OneHour self.now.number place result }
         ensures clock { result.clock < 24 }
     {
-        let even = even_place(self.sunday, self.change, place);
+        let even = self.even_place(place);
         let day = even / 24;
         Hour {
             day: day as u8,
