@@ -1,5 +1,5 @@
 -- One thing for each of the three zones.
-use Rattle.std.specs.Prelude.{ℕ}
+use Rattle.std.specs.Prelude.{ℕ, List, [], ◌∷◌}
 use Rattle.settlement.specs.declared.zones.Zone.{Zone}
 use Rattle.settlement.specs.declared.zones.Zone.TheVariants.{First, Second, Third}
 use Rattle.settlement.specs.declared.zones.Zones.{Zones}
@@ -22,6 +22,10 @@ module _ {X : Type 0} where
   put First x xs = record { one = x; two = xs.two; three = xs.three }
   put Second x xs = record { one = xs.one; two = x; three = xs.three }
   put Third x xs = record { one = xs.one; two = xs.two; three = x }
+
+  -- what the zones have, in their order
+  abbrev pub in_order : Zones X → List X
+  in_order xs = xs.one ∷ xs.two ∷ xs.three ∷ []
 
   -- the same for each zone
   abbrev pub all : X → Zones X

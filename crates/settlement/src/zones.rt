@@ -1,7 +1,7 @@
 // One thing for each of the zones.
 ghost use Rattle.std.specs.Prelude.{◌≡◌};
 ghost use Rattle.std.specs.Fn.{FnReturnsAt};
-ghost use Rattle.settlement.specs.Zones.{number, of, put, Matched, MatchedThree};
+ghost use Rattle.settlement.specs.Zones.{in_order, number, of, put, Matched, MatchedThree};
 
 // The zones, 1 to 3.
 #[derive(Clone, Copy, PartialEq, Eq, Debug)]
@@ -30,6 +30,16 @@ pub struct Zones<T> {
     pub one: T,
     pub two: T,
     pub three: T,
+}
+
+// Three things, by zone.
+impl<T> From<[T; 3]> for Zones<T> {
+    ghost from_gives = { λ things zones. things ≡ in_order zones };
+
+    fn from(things: [T; 3]) -> Zones<T> {
+        let [one, two, three] = things;
+        Zones { one, two, three }
+    }
 }
 
 impl<T> Zones<T> {
