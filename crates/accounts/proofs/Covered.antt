@@ -1,5 +1,5 @@
 -- What the two passes leave as it was, and the lines of three stores.
-use Rattle.std.proofs.Common.{◌≡◌, ℕ, ◌+◌, ◌≤◌, List, ◌++◌, length, drop, sym, ap, ◌∙◌, subst, append_assoc, arith, length-append}
+use Rattle.std.proofs.Common.{◌≡◌, ℕ, ◌+◌, ◌≤◌, List, ◌++◌, length, drop, Some, sym, ap, ◌∙◌, subst, append_assoc, arith, length-append}
 use lib.Seq.{paste}
 use Rattle.std.proofs.lemmas.List.{length-map}
 use Rattle.std.proofs.lemmas.List.Edits.{paste_all, paste-paste}
@@ -44,33 +44,33 @@ in_a_row d s t u i j k e f g =
     cc
 
 module _ (before : Zones (List ℕ)) (stores : Zones (Ledger (Unit {0}))) (known : Known before stores) where
-  abbrev lines_in : ℕ → Zone → List Line
-  lines_in n z = lines_of n (of z before) (of z stores).portions
+  abbrev lines_in : Zone → List Line
+  lines_in z = lines_of (Some z) (of z before) (of z stores).portions
 
-  count_in : (n : ℕ) (z : Zone) → length (of z stores).portions ≤ length (of z before) → length (of z stores).portions ≡ length (lines_in n z)
-  count_in n z le = sym (length_lines_of n (of z before) (of z stores).portions le)
+  count_in : (z : Zone) → length (of z stores).portions ≤ length (of z before) → length (of z stores).portions ≡ length (lines_in z)
+  count_in z le = sym (length_lines_of (Some z) (of z before) (of z stores).portions le)
 
   all_count : length (all_lines before stores) ≡ length stores.one.portions + length stores.two.portions + length stores.three.portions
   all_count =
-      omega (arith, length-append (lines_in 1 First) (lines_in 2 Second ++ lines_in 3 Third), length-append (lines_in 2 Second) (lines_in 3 Third), count_in 1 First known.0, count_in 2 Second known.1, count_in 3 Third known.2)
+      omega (arith, length-append (lines_in First) (lines_in Second ++ lines_in Third), length-append (lines_in Second) (lines_in Third), count_in First known.0, count_in Second known.1, count_in Third known.2)
 
   module _ (second third end : ℕ) (R1 : second ≡ 0 + length stores.one.portions) (R2 : third ≡ second + length stores.two.portions) (R3 : end ≡ third + length stores.three.portions) where
     pub zones_count : end ≡ length (all_lines before stores)
     zones_count = omega (arith, R1, R2, R3, all_count)
 
     pub zones_lines : (d w1 w2 w3 : List Line) →
-        w1 ≡ paste d 0 (lines_in 1 First) (length stores.one.portions) →
-        w2 ≡ paste w1 second (lines_in 2 Second) (length stores.two.portions) →
-        w3 ≡ paste w2 third (lines_in 3 Third) (length stores.three.portions) →
+        w1 ≡ paste d 0 (lines_in First) (length stores.one.portions) →
+        w2 ≡ paste w1 second (lines_in Second) (length stores.two.portions) →
+        w3 ≡ paste w2 third (lines_in Third) (length stores.three.portions) →
         w3 ≡ written (all_lines before stores) d
     zones_lines d w1 w2 w3 W1 W2 W3 =
-        let flat = in_a_row d (lines_in 1 First) (lines_in 2 Second) (lines_in 3 Third) _ _ _ (count_in 1 First known.0) (count_in 2 Second known.1) (count_in 3 Third known.2) in
+        let flat = in_a_row d (lines_in First) (lines_in Second) (lines_in Third) _ _ _ (count_in First known.0) (count_in Second known.1) (count_in Third known.2) in
         let n1 = length stores.one.portions in
         let n2 = length stores.two.portions in
         let n3 = length stores.three.portions in
         let e2 : third ≡ 0 + n1 + n2 = omega (arith, R1, R2) in
         let all : 0 + n1 + n2 + n3 ≡ length (all_lines before stores) = omega (arith, all_count) in
-        W3 ∙ ap (λ x. paste x third (lines_in 3 Third) n3) (W2 ∙ ap (λ x. paste x second (lines_in 2 Second) n2) W1)
-        ∙ ap (λ k. paste (paste (paste d 0 (lines_in 1 First) n1) k (lines_in 2 Second) n2) third (lines_in 3 Third) n3) R1
-        ∙ ap (λ k. paste (paste (paste d 0 (lines_in 1 First) n1) (0 + n1) (lines_in 2 Second) n2) k (lines_in 3 Third) n3) e2
+        W3 ∙ ap (λ x. paste x third (lines_in Third) n3) (W2 ∙ ap (λ x. paste x second (lines_in Second) n2) W1)
+        ∙ ap (λ k. paste (paste (paste d 0 (lines_in First) n1) k (lines_in Second) n2) third (lines_in Third) n3) R1
+        ∙ ap (λ k. paste (paste (paste d 0 (lines_in First) n1) (0 + n1) (lines_in Second) n2) k (lines_in Third) n3) e2
         ∙ flat ∙ ap (λ k. all_lines before stores ++ drop k d) all

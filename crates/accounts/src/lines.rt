@@ -9,11 +9,11 @@ ghost use Rattle.shelf.specs.Sound.{Sound};
 
 use portions::Kind;
 use portions::amounts::Amounts;
-use settlement::Line;
+use settlement::{Line, Zone};
 use shelf::Shelf;
 
 // The line of a portion that had `was` left.
-fn line<K: Kind>(portion: &K, zone: u8, was: u32) -> Line
+fn line<K: Kind>(portion: &K, zone: Option<Zone>, was: u32) -> Line
     ensures { result ≡ line_of zone was (K.Kind.means portion.now) }
 {
     let left = portion.left();
@@ -26,26 +26,18 @@ fn line<K: Kind>(portion: &K, zone: u8, was: u32) -> Line
 }
 
 // The line of the open portion at a place, which had `was` left.
-fn line_at<K: Kind>(store: &Shelf<K>, place: usize, zone: u8, was: u32) -> Line
+fn line_at<K: Kind>(store: &Shelf<K>, place: usize, zone: Option<Zone>, was: u32) -> Line
     requires sound { Sound store.now }
     requires there { place < length (ledger_of K.Kind store.now).portions }
     ensures { told (line_of zone was) (slice_get (ledger_of K.Kind store.now).portions place) ≡ Some result }
 {
-    match store.portion(place) {
-        Some(portion) => line(&portion, zone, was),
-        None => Line {
-            zone,
-            month: 0,
-            used: 0,
-            left: 0,
-        },
-    }
+    line(&store.portion(place).unwrap(), zone, was)
 }
 
 // Writes a line for each open portion, the first at `from`, and returns the place after the last.
 pub(crate) fn write_lines<K: Kind>(
     store: &Shelf<K>,
-    zone: u8,
+    zone: Option<Zone>,
     before: &Amounts,
     lines: &mut [Line],
     from: usize,

@@ -1,4 +1,4 @@
-use Rattle.std.proofs.Common.{◌≡◌, ◌<◌, length, Some, subst, arith}
+use Rattle.std.proofs.Common.{◌≡◌, ◌<◌, length, Some, None, subst, arith}
 use Rattle.std.specs.List.{slice_get}
 use Rattle.std.proofs.lemmas.List.Edits.{paste_none, paste_more}
 use Rattle.portions.specs.Listed.{listed}
@@ -18,7 +18,7 @@ loop-i-preserved g c =
     let was = listed c.args.before.now in
     let ls = lines_of c.args.zone was ps in
     let i = c.loop-i.i in
-    let z : Line = record { zone = 0; month = 0; used = 0; left = 0 } in
+    let z : Line = record { zone = None; month = 0; used = 0; left = 0 } in
     let long = length_lines_of c.args.zone was ps c.requires.known in
     let lt : i < length ps = omega (arith, c.count-count.ensures, c.loop-i-test.true) in
     let line = subst (λ n. told (line_of c.args.zone n) (slice_get ps i) ≡ Some c.line_at.result) c.at.ensures c.line_at.ensures in

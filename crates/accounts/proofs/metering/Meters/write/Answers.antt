@@ -4,7 +4,7 @@ use Rattle.settlement.specs.Zones.{each}
 use Rattle.accounts.specs.Means.{energy_kind, energies}
 use Rattle.accounts.proofs.Facts.{few_open}
 use Rattle.accounts.proofs.Covered.{zones_count, zones_lines}
-use Rattle.accounts.proofs.metering.stores.write_zones.Goals as goal
+use Rattle.accounts.proofs.metering.Meters.write.Goals as goal
 
 pub write_lines-second-requires : goal.write_lines-second-requires
 write_lines-second-requires c =
