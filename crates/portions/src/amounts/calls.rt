@@ -4,6 +4,14 @@ ghost use Rattle.portions.specs.Listed.{listed};
 
 use crate::amounts::Amounts;
 
+impl Default for Amounts {
+    ghost is_default = { λ a. listed a ≡ [] };
+
+    fn default() -> Amounts {
+        Amounts::new()
+    }
+}
+
 impl Amounts {
     // No amounts yet.
     pub fn new() -> Amounts
@@ -22,11 +30,18 @@ impl Amounts {
         self.len
     }
 
+    // The amounts.
+    pub fn as_slice(&self) -> &[u32]
+        ensures { result.now ≡ listed self.now }
+    {
+        &self.rows[..self.len]
+    }
+
     // The amount at a place, and 0 past the last.
     pub fn at(&self, i: usize) -> u32
         ensures { result ≡ slice_index (listed self.now) i }
     {
-        if i < self.len { self.rows[i] } else { 0 }
+        self.as_slice().get(i).copied().unwrap_or(0)
     }
 
     // One more at the end, where there are fewer than 16.
@@ -44,10 +59,6 @@ impl Amounts {
     pub fn total(&self) -> u64
         ensures { result ≡ sum (listed self.now) }
     {
-        let mut all = 0;
-        for i in 0..self.len {
-            all += self.rows[i] as u64;
-        }
-        all
+        self.as_slice().iter().map(|&x| u64::from(x)).sum()
     }
 }
