@@ -15,8 +15,8 @@ ghost use Rattle.accounts.specs.Bounds.{FreeIn};
 ghost use Rattle.accounts.specs.Slots.{SameSlots, Drawn};
 
 use faults::{AccountFault, StoreFault};
-use portions::Kind;
 use portions::rules::Rule;
+use portions::{FIRST_MONTH, Kind, LAST_MONTH};
 use shelf::Shelf;
 
 // The most portions that a store of an account has open: a month's and those of the twelve months before it. A store needs
@@ -32,11 +32,6 @@ pub(crate) fn enough_slots(slots: usize) -> Result<(), StoreFault>
     }
     Ok(())
 }
-
-// The months for which an account may be opened.
-const FIRST_MONTH: u16 = 47;
-
-const LAST_MONTH: u16 = 1_199;
 
 // Refuses a month for which no account may be opened.
 pub(crate) fn month_in_range(month: u16) -> Result<(), AccountFault>
