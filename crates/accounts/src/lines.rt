@@ -1,9 +1,8 @@
 // The lines of a settlement, written into the caller's list.
-ghost use Rattle.std.specs.Prelude.{◌≡◌, ◌+◌, ◌<◌, ◌≤◌, length, Some};
-ghost use Rattle.std.proofs.Math.Seq.{paste};
+ghost use Rattle.std.specs.Prelude.{◌≡◌, ◌<◌, ◌≤◌, length, Some};
 ghost use Rattle.std.specs.List.{slice_get};
 ghost use Rattle.portions.specs.Listed.{listed};
-ghost use Rattle.settlement.specs.Lines.{line_of, lines_of};
+ghost use Rattle.settlement.specs.Lines.{line_of, lines_of, written};
 ghost use Rattle.shelf.specs.Reading.{ledger_of, told};
 ghost use Rattle.shelf.specs.Sound.{Sound};
 
@@ -34,23 +33,22 @@ fn line_at<K: Kind>(store: &Shelf<K>, place: usize, zone: Option<Zone>, was: u32
     line(&store.portion(place).unwrap(), zone, was)
 }
 
-// Writes a line for each open portion, the first at `from`, and returns the place after the last.
+// Writes a line for each open portion over the first of the lines: how many there are.
 pub(crate) fn write_lines<K: Kind>(
     store: &Shelf<K>,
     zone: Option<Zone>,
     before: &Amounts,
     lines: &mut [Line],
-    from: usize,
 ) -> usize
     requires sound { Sound store.now }
     requires known { length (ledger_of K.Kind store.now).portions ≤ length (listed before.now) }
-    requires room { from + length (ledger_of K.Kind store.now).portions ≤ length lines.old }
-    ensures count { result ≡ from + length (ledger_of K.Kind store.now).portions }
-    ensures lines { lines.new ≡ paste lines.old from (lines_of zone (listed before.now) (ledger_of K.Kind store.now).portions) (length (ledger_of K.Kind store.now).portions) }
+    requires room { length (ledger_of K.Kind store.now).portions ≤ length lines.old }
+    ensures count { result ≡ length (ledger_of K.Kind store.now).portions }
+    ensures lines { lines.new ≡ written (lines_of zone (listed before.now) (ledger_of K.Kind store.now).portions) lines.old }
 {
     let count = store.count();
-    for i in 0..count {
-        lines[from + i] = line_at(store, i, zone, before.at(i));
+    for (place, line) in lines[..count].iter_mut().enumerate() {
+        *line = line_at(store, place, zone, before.at(place));
     }
-    from + count
+    count
 }

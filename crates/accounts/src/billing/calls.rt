@@ -99,7 +99,7 @@ impl<'a> Billing<'a> {
         let next = self.standing().may_settle(MOST_PORTIONS, lines.len())?;
         let before = self.store.lefts();
         let used = draw_store(&mut self.store, rule, self.bill);
-        let count = write_lines(&self.store, None, &before, lines, 0);
+        let count = write_lines(&self.store, None, &before, lines);
         let payment = paid(self.bill, used, count);
         self.bill = 0;
         self.state = next;

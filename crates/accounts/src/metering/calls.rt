@@ -115,14 +115,14 @@ impl<'a> Metering<'a> {
         let before = self.meters.lefts();
         let pending = self.meters.pending;
         self.meters.cover_all(rule, self.coefficient);
-        let lines = self.meters.write(&before, lines);
+        let count = self.meters.write(&before, lines);
         let due = self.meters.pending;
         self.meters.pending = Zones::default();
         self.state = next;
         Ok(Settlement {
             covered: pending.zip_with(due, |was, rest| was.saturating_sub(rest)),
             due,
-            lines,
+            lines: count,
         })
     }
 

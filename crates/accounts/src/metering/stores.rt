@@ -70,7 +70,11 @@ impl<'a> Meters<'a> {
     pub(super) fn lefts(&self) -> Zones<Amounts>
         ensures { each listed result ≡ each lefts (each energies self.now.stores) }
     {
-        self.stores.map(|store| store.lefts())
+        Zones {
+            one: self.stores.one.lefts(),
+            two: self.stores.two.lefts(),
+            three: self.stores.three.lefts(),
+        }
     }
 
     // Writes a line for each open portion, zone by zone, over the first of the caller's lines: how many there are.
@@ -82,8 +86,11 @@ impl<'a> Meters<'a> {
         ensures lines { lines.new ≡ written (all_lines (each listed before.now) (each energies self.now.stores)) lines.old }
     {
         let stores = &self.stores;
-        let second = write_lines(&stores.one, Some(Zone::First), &before.one, lines, 0);
-        let third = write_lines(&stores.two, Some(Zone::Second), &before.two, lines, second);
-        write_lines(&stores.three, Some(Zone::Third), &before.three, lines, third)
+        let one = write_lines(&stores.one, Some(Zone::First), &before.one, lines);
+        let (_, rest) = lines.split_at_mut(one);
+        let two = write_lines(&stores.two, Some(Zone::Second), &before.two, rest);
+        let (_, rest) = rest.split_at_mut(two);
+        let three = write_lines(&stores.three, Some(Zone::Third), &before.three, rest);
+        one + two + three
     }
 }
