@@ -1,10 +1,11 @@
 -- What draws one after the other do to the slots.
-use Rattle.std.proofs.Common.{◌≡◌, ℕ, max, true, drop, ◌∙◌, subst, arith}
+use Rattle.std.proofs.Common.{◌≡◌, ℕ, max, true, drop, refl, ◌∙◌, subst, arith}
 use Rattle.shelf.specs.declared.Shelf.{Shelf}
 use Rattle.shelf.specs.Held.{lent, in_use}
-use Rattle.settlement.specs.declared.states.Zones.{Zones}
+use Rattle.settlement.specs.declared.zones.Zones.{Zones}
 use Rattle.accounts.specs.Means.{EnergyShelf}
 use Rattle.accounts.specs.Slots.{Drawn, EachDrawn, EachAccounted}
+use Rattle.accounts.proofs.Outcomes.{unchanged}
 
 then_drawn : {K T : Type 0} (s t u : Shelf K T) → Drawn s t → Drawn t u → Drawn s u
 then_drawn s t u d e =
@@ -21,6 +22,10 @@ then_drawn s t u d e =
       };
       same_use = e.same_use ∙ d.same_use;
     }
+
+-- nothing drawn changes nothing
+pub none_drawn : (s : Zones EnergyShelf) → EachDrawn s s
+none_drawn s = (record { accounted = unchanged true s.one; same_use = refl }, record { accounted = unchanged true s.two; same_use = refl }, record { accounted = unchanged true s.three; same_use = refl })
 
 module _ (s t u : Zones EnergyShelf) where
   pub then_each : EachDrawn s t → EachDrawn t u → EachDrawn s u

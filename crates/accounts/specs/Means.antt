@@ -6,9 +6,7 @@ use Rattle.ledger.specs.Ledger.{Ledger}
 use Rattle.shelf.specs.declared.Shelf.{Shelf}
 use Rattle.shelf.specs.Held.{room}
 use Rattle.shelf.specs.Reading.{ledger_of}
-use Rattle.settlement.specs.declared.states.Zones.{Zones}
-use Rattle.settlement.specs.Zones.{each}
-use Rattle.settlement.specs.Metering.{Course}
+use Rattle.settlement.specs.declared.zones.Zones.{Zones}
 
 -- a shelf of energy
 abbrev pub EnergyShelf : Type 0
@@ -43,10 +41,6 @@ energies s = ledger_of energy_kind s
 -- the ledger of a shelf of deposits
 abbrev pub deposits : DepositShelf → Ledger ℕ
 deposits s = ledger_of deposit_kind s
-
--- how far a settlement of these stores has come
-abbrev pub course : Zones EnergyShelf → Zones ℕ → Course
-course s rests = record { stores = each energies s; rests = rests }
 
 -- the fewest slots that a store has
 abbrev pub fewest : Zones EnergyShelf → ℕ

@@ -15,27 +15,23 @@ ghost use Rattle.accounts.specs.Bounds.{FreeIn};
 ghost use Rattle.accounts.specs.Slots.{SameSlots, Drawn};
 
 use faults::{AccountFault, StoreFault};
-use portions::Kind;
 use portions::rules::Rule;
+use portions::{FIRST_MONTH, Kind, LAST_MONTH};
 use shelf::Shelf;
 
-// The slots that a store of an account has to have: for a month's portion and those of the twelve months before it.
-const FEWEST_SLOTS: usize = 13;
+// The most portions that a store of an account has open: a month's and those of the twelve months before it. A store needs
+// so many slots, and a settlement so many lines for each store.
+pub(crate) const MOST_PORTIONS: usize = 13;
 
 // Refuses, as a store does, too few slots.
 pub(crate) fn enough_slots(slots: usize) -> Result<(), StoreFault>
     ensures { result ≡ (if nat_lt 12 slots then Ok tt else Err TooFewSlots) }
 {
-    if slots < FEWEST_SLOTS {
+    if slots < MOST_PORTIONS {
         return Err(StoreFault::TooFewSlots);
     }
     Ok(())
 }
-
-// The months for which an account may be opened.
-const FIRST_MONTH: u16 = 47;
-
-const LAST_MONTH: u16 = 1_199;
 
 // Refuses a month for which no account may be opened.
 pub(crate) fn month_in_range(month: u16) -> Result<(), AccountFault>
@@ -84,10 +80,7 @@ pub(crate) fn draw_store<K: Kind, R: Rule>(store: &mut Shelf<K>, rule: &R, wante
     ensures slots { Drawn store.old store.new }
     ensures sound { Sound store.new }
 {
-    match store.draw(rule, wanted) {
-        Ok(used) => used as u32,
-        Err(_) => 0,
-    }
+    store.draw(rule, wanted).unwrap() as u32
 }
 
 // Turns a store that is not in its last month: its refunds and losses.
@@ -103,8 +96,5 @@ pub(crate) fn turn_store<K: Kind>(store: &mut Shelf<K>) -> (u64, u64)
     ensures free { FreeIn (ledger_of K.Kind store.new) }
     ensures small { result.0 + result.1 ≤ 120000000000 }
 {
-    match store.turn() {
-        Ok(ended) => ended,
-        Err(_) => (0, 0),
-    }
+    store.turn().unwrap()
 }
