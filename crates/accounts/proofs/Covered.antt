@@ -7,9 +7,9 @@ use Rattle.portions.specs.Portions.{Portion}
 use Rattle.ledger.specs.Rules.{Rule}
 use Rattle.ledger.specs.Ledger.{Ledger, lefts}
 use Rattle.settlement.specs.declared.answers.Line.{Line}
-use Rattle.settlement.specs.declared.states.Zone.{Zone}
-use Rattle.settlement.specs.declared.states.Zone.TheVariants.{First, Second, Third}
-use Rattle.settlement.specs.declared.states.Zones.{Zones}
+use Rattle.settlement.specs.declared.zones.Zone.{Zone}
+use Rattle.settlement.specs.declared.zones.Zone.TheVariants.{First, Second, Third}
+use Rattle.settlement.specs.declared.zones.Zones.{Zones}
 use Rattle.settlement.specs.Zones.{of, each}
 use Rattle.settlement.specs.Lines.{lines_of, written}
 use Rattle.settlement.specs.Metering.{MeterAccount, Course, own_stores, other_stores, outset, settled_course, all_lines}

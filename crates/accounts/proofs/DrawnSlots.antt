@@ -2,7 +2,7 @@
 use Rattle.std.proofs.Common.{◌≡◌, ℕ, max, true, drop, ◌∙◌, subst, arith}
 use Rattle.shelf.specs.declared.Shelf.{Shelf}
 use Rattle.shelf.specs.Held.{lent, in_use}
-use Rattle.settlement.specs.declared.states.Zones.{Zones}
+use Rattle.settlement.specs.declared.zones.Zones.{Zones}
 use Rattle.accounts.specs.Means.{EnergyShelf}
 use Rattle.accounts.specs.Slots.{Drawn, EachDrawn, EachAccounted}
 

@@ -9,7 +9,7 @@ use Rattle.settlement.specs.declared.answers.Line.{Line}
 use Rattle.settlement.specs.declared.states.MonthState.{MonthState}
 use Rattle.settlement.specs.declared.states.MonthState.TheVariants.{Waiting, Entered, Settled}
 use Rattle.settlement.specs.declared.states.Period.{Period}
-use Rattle.settlement.specs.declared.states.Zones.{Zones}
+use Rattle.settlement.specs.declared.zones.Zones.{Zones}
 use Rattle.settlement.specs.Zones.{all, each, each_two}
 use Rattle.settlement.specs.Kinds.{energy}
 use Rattle.settlement.specs.Table.{period_of}

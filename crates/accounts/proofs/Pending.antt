@@ -4,8 +4,8 @@ use Rattle.hours.specs.declared.sums.MonthSums.{MonthSums}
 use Rattle.settlement.specs.declared.states.MonthState.{MonthState}
 use Rattle.settlement.specs.declared.states.MonthState.TheVariants.{Waiting, Entered}
 use Rattle.settlement.specs.declared.states.Period.{Period}
-use Rattle.settlement.specs.declared.states.Zone.TheVariants.{First, Second, Third}
-use Rattle.settlement.specs.declared.states.Zones.{Zones}
+use Rattle.settlement.specs.declared.zones.Zone.TheVariants.{First, Second, Third}
+use Rattle.settlement.specs.declared.zones.Zones.{Zones}
 use Rattle.settlement.specs.Zones.{each_two}
 use Rattle.settlement.specs.Bounds.{most_pending}
 use Rattle.settlement.specs.Metering.{split_by_zone}

@@ -4,7 +4,7 @@ use Rattle.ledger.specs.Ledger.{Ledger, has}
 use Rattle.shelf.specs.Sound.{Sound}
 use Rattle.settlement.specs.declared.states.MonthState.{MonthState}
 use Rattle.settlement.specs.declared.states.Period.{Period}
-use Rattle.settlement.specs.declared.states.Zones.{Zones}
+use Rattle.settlement.specs.declared.zones.Zones.{Zones}
 use Rattle.settlement.specs.Bounds.{most_pending}
 use Rattle.accounts.specs.Means.{EnergyShelf, energies}
 

@@ -7,7 +7,7 @@ use Rattle.ledger.specs.Ledger.{Ledger}
 use Rattle.shelf.specs.declared.Shelf.{Shelf}
 use Rattle.shelf.specs.Held.{room}
 use Rattle.shelf.specs.Reading.{ledger_of}
-use Rattle.settlement.specs.declared.states.Zones.{Zones}
+use Rattle.settlement.specs.declared.zones.Zones.{Zones}
 use Rattle.settlement.specs.Zones.{each}
 use Rattle.settlement.specs.Metering.{Course}
 

@@ -3,7 +3,7 @@ use Rattle.std.specs.Prelude.{◌≡◌, Bool, true}
 use Rattle.shelf.specs.declared.Shelf.{Shelf}
 use Rattle.shelf.specs.Held.{lent, in_use}
 use Rattle.shelf.specs.Slots.{Accounted}
-use Rattle.settlement.specs.declared.states.Zones.{Zones}
+use Rattle.settlement.specs.declared.zones.Zones.{Zones}
 use Rattle.accounts.specs.Means.{EnergyShelf}
 
 -- every slot is as it was, and still the lender's

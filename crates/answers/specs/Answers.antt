@@ -1,6 +1,6 @@
 -- What is printed for an answer and for a refusal.
 use Rattle.std.specs.Prelude.{ℕ, List, [], ◌∷◌, ◌++◌, map}
-use Rattle.settlement.specs.declared.states.Zones.{Zones}
+use Rattle.settlement.specs.declared.zones.Zones.{Zones}
 use Rattle.answers.specs.declared.kinds.Printed.{Printed}
 use Rattle.answers.specs.declared.kinds.Printed.TheVariants.{Line, Due, Turned, Refused}
 use Rattle.answers.specs.Said.{Said, nothing, settled, paid, turned}

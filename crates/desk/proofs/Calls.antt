@@ -15,7 +15,7 @@ use Rattle.settlement.specs.declared.answers.Payment.{Payment}
 use Rattle.portions.specs.declared.Slot.{Slot}
 use Rattle.shelf.specs.Held.{room}
 use Rattle.settlement.specs.declared.answers.Line.{Line}
-use Rattle.settlement.specs.declared.states.Zones.{Zones}
+use Rattle.settlement.specs.declared.zones.Zones.{Zones}
 use Rattle.settlement.specs.Lines.{written}
 use Rattle.settlement.specs.Metering.{MeterAccount}
 use Rattle.settlement.specs.Billing.{BillAccount}

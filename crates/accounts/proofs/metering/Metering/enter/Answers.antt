@@ -1,7 +1,7 @@
 use Rattle.std.proofs.Common.{◌≡◌, ℕ, ap, ◌∙◌, arith}
 use Rattle.ledger.specs.Ledger.{Ledger}
 use Rattle.settlement.specs.declared.states.MonthState.TheVariants.{Waiting, Entered}
-use Rattle.settlement.specs.declared.states.Zones.{Zones}
+use Rattle.settlement.specs.declared.zones.Zones.{Zones}
 use Rattle.settlement.specs.Metering.{metering, split_by_zone}
 use Rattle.settlement.proofs.Metered.{metering_keeps}
 use Rattle.accounts.specs.Means.{energies}

@@ -2,7 +2,7 @@ use Rattle.std.proofs.Common.{◌≡◌, ℕ, arith}
 use Rattle.portions.specs.Listed.{listed}
 use Rattle.shelf.proofs.Lawful.{lawful_rule}
 use Rattle.settlement.specs.declared.states.MonthState.TheVariants.{Settled}
-use Rattle.settlement.specs.declared.states.Zone.TheVariants.{First, Second, Third}
+use Rattle.settlement.specs.declared.zones.Zone.TheVariants.{First, Second, Third}
 use Rattle.settlement.specs.Zones.{each}
 use Rattle.settlement.specs.Metering.{metering}
 use Rattle.settlement.proofs.Metered.{metering_keeps}

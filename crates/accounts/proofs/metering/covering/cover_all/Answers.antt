@@ -1,5 +1,5 @@
 use Rattle.std.proofs.Common.{ap, ◌∙◌}
-use Rattle.settlement.specs.declared.states.Zone.TheVariants.{First, Second, Third}
+use Rattle.settlement.specs.declared.zones.Zone.TheVariants.{First, Second, Third}
 use Rattle.settlement.specs.Metering.{cover}
 use Rattle.accounts.proofs.DrawnSlots.{then_each}
 use Rattle.accounts.proofs.metering.covering.cover_all.Goals as goal
