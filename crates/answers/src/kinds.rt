@@ -1,5 +1,5 @@
 // Answers, and the lines that are printed for them.
-use settlement::{Line, Payment, Settlement};
+use settlement::{Line, Payment, Settlement, Zone};
 
 // What an accepted record is answered; the lines of a settlement stand in the caller's list.
 #[derive(Clone, Copy)]
@@ -10,11 +10,11 @@ pub enum Answer {
     Turned { refunded: u64, lost: u64 },
 }
 
-// One printed line.
+// One printed line. What is due of a bill has no zone; any number may stand for a refusal.
 #[derive(Clone, Copy)]
 pub enum Printed {
     Line(Line),
-    Due { zone: u8, due: u32 },
+    Due { zone: Option<Zone>, due: u32 },
     Turned { refunded: u64, lost: u64 },
     Refused { place: usize, number: u8 },
 }
