@@ -1,6 +1,6 @@
 // Worked figures of the calendar and of a month's sums.
 use crate::show;
-use anyhow::anyhow;
+use anyhow::{Context, anyhow};
 use calendar::Month;
 use hours::{MonthPrice, Reading, Totals, sum_month};
 use std::alloc::{AllocError, Global};
@@ -27,30 +27,23 @@ fn february(heap: Global, first: &[Reading], price: i32) -> anyhow::Result<Total
             export: 0,
         })?;
     }
-    let Ok(mut source) = MonthPrice::new(97, price) else {
-        return Err(anyhow!("the price is refused"));
-    };
-    match sum_month(
+    let mut source = MonthPrice::new(97, price).map_err(|_| anyhow!("the price is refused"))?;
+    let sums = sum_month(
         97,
         [[1; 24], [3; 24]],
         [600_000, 0, 500_000],
         &readings,
         &mut source,
-    ) {
-        Ok(sums) => {
-            let totals = sums.totals();
-            let _ = sums.strike();
-            Ok(totals)
-        }
-        Err(_) => Err(anyhow!("the month is refused")),
-    }
+    )
+    .map_err(|_| anyhow!("the month is refused"))?;
+    let totals = sums.totals();
+    let _ = sums.strike();
+    Ok(totals)
 }
 
 // The hours of a month.
 fn show_hours(rt: &HostRuntime, number: u16, expected: &str) -> anyhow::Result<()> {
-    let Some(month) = Month::new(number) else {
-        return Err(anyhow!("no such month"));
-    };
+    let month = Month::new(number).context("no such month")?;
     let heap = rt.alloc();
     let hours = month.hours();
     let name = format!(in heap; "hours of month {number}")?;
@@ -61,14 +54,10 @@ fn show_hours(rt: &HostRuntime, number: u16, expected: &str) -> anyhow::Result<(
 // What the clock shows, hour by hour, on a day of a month.
 fn clock_hours(heap: Global, month: Month, day: u8) -> Result<String, AllocError> {
     let mut shown = String::new(heap);
-    for place in 0..month.hours() {
-        let Some(hour) = month.hour_at(place) else {
-            continue;
-        };
+    for hour in (0..month.hours()).filter_map(|place| month.hour_at(place)) {
         if hour.day == day {
             let clock = hour.clock;
-            let next = format!(in heap; "{clock} ")?;
-            shown.push_str(next.as_str())?;
+            write!(shown, "{clock} ")?;
         }
     }
     Ok(shown)
@@ -76,9 +65,7 @@ fn clock_hours(heap: Global, month: Month, day: u8) -> Result<String, AllocError
 
 // The clock hours of the day of month on which the clocks change, counted from 1.
 fn show_day(rt: &HostRuntime, number: u16, day: u8, expected: &str) -> anyhow::Result<()> {
-    let Some(month) = Month::new(number) else {
-        return Err(anyhow!("no such month"));
-    };
+    let month = Month::new(number).context("no such month")?;
     let heap = rt.alloc();
     let got = clock_hours(heap, month, day.saturating_sub(1))?;
     let name = format!(in heap; "clock hours of day {day} of month {number}")?;
@@ -127,7 +114,7 @@ fn show_sellers_table(rt: &HostRuntime) -> anyhow::Result<()> {
     let expected = [
         "+500", "-500", "-2000", "-1000", "-1000", "+1500", "+3000", "+4000",
     ];
-    for (k, reading) in SELLERS_HOURS.iter().enumerate() {
+    for (k, (reading, balance)) in SELLERS_HOURS.iter().zip(expected.iter()).enumerate() {
         let totals = february(heap, &[*reading], 0)?;
         let [taken, _, _] = totals.import;
         let [given, _, _] = totals.export;
@@ -137,12 +124,7 @@ fn show_sellers_table(rt: &HostRuntime) -> anyhow::Result<()> {
             format!(in heap; "-{given}")?
         };
         let name = format!(in heap; "balance of hour {}", k.saturating_add(11))?;
-        show(
-            rt,
-            name.as_str(),
-            got.as_str(),
-            expected.get(k).copied().unwrap_or(""),
-        )?;
+        show(rt, name.as_str(), got.as_str(), balance)?;
     }
     let all = february(heap, &SELLERS_HOURS, 0)?;
     show_totals(

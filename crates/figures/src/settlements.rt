@@ -2,7 +2,7 @@
 use crate::draws::UNUSED;
 use crate::show;
 use accounts::{Billing, Metering};
-use anyhow::anyhow;
+use anyhow::{Context, anyhow};
 use hours::{MonthPrice, MonthSums, Reading, sum_month};
 use portions::Kind;
 use portions::oldest_first::OldestFirst;
@@ -57,13 +57,10 @@ fn readings_of(heap: Global, working: Days, weekend: Days) -> Result<Vec<Reading
 // Their sums: working days in zone 1, weekends in zone 2, every sale price 600,000 and every price 300,000 gr per MWh.
 fn sums_of(heap: Global, working: Days, weekend: Days) -> anyhow::Result<MonthSums> {
     let readings = readings_of(heap, working, weekend)?;
-    let Ok(mut source) = MonthPrice::new(97, 300_000) else {
-        return Err(anyhow!("the price is refused"));
-    };
-    match sum_month(97, [[1; 24], [2; 24]], [600_000; 3], &readings, &mut source) {
-        Ok(sums) => Ok(sums),
-        Err(_) => Err(anyhow!("the month is refused")),
-    }
+    let mut source = MonthPrice::new(97, 300_000).map_err(|_| anyhow!("the price is refused"))?;
+    sum_month(97, [[1; 24], [2; 24]], [600_000; 3], &readings, &mut source).map_err(|_| anyhow!(
+        "the month is refused"
+    ))
 }
 
 // Strikes sums that an account handed back.
@@ -77,15 +74,14 @@ fn struck(back: Returned) -> anyhow::Error {
 fn told(heap: Global, lines: &[Line], count: usize, due: [u32; 3]) -> Result<String, AllocError> {
     let mut text = String::new(heap);
     for line in lines.iter().take(count) {
-        let next = format!(in heap;
+        write!(
+            text,
             "zone {} used {} left {}, ",
             line.zone, line.used, line.left
         )?;
-        text.push_str(next.as_str())?;
     }
     let [one, two, three] = due;
-    let last = format!(in heap; "due {one} {two} {three}")?;
-    text.push_str(last.as_str())?;
+    write!(text, "due {one} {two} {three}")?;
     Ok(text)
 }
 
@@ -93,16 +89,16 @@ fn told(heap: Global, lines: &[Line], count: usize, due: [u32; 3]) -> Result<Str
 fn metered(heap: Global, power: u32, working: Days, weekend: Days) -> anyhow::Result<String> {
     let (mut one, mut two, mut three) = ([UNUSED; 13], [UNUSED; 13], [UNUSED; 13]);
     let mut account = Metering::over(&mut one, &mut two, &mut three);
-    if account.open(97, power, 1).is_err() {
-        return Err(anyhow!("the opening is refused"));
-    }
-    if let Err(back) = account.enter(sums_of(heap, working, weekend)?) {
-        return Err(struck(back));
-    }
+    account
+        .open(97, power, 1)
+        .map_err(|_| anyhow!("the opening is refused"))?;
+    account
+        .enter(sums_of(heap, working, weekend)?)
+        .map_err(struck)?;
     let mut lines = [BLANK; 39];
-    let Ok(settled) = account.settle(&OldestFirst, &mut lines) else {
-        return Err(anyhow!("the settlement is refused"));
-    };
+    let settled = account
+        .settle(&OldestFirst, &mut lines)
+        .map_err(|_| anyhow!("the settlement is refused"))?;
     let due = settled.due;
     Ok(told(heap, &lines, settled.lines, [due.one, due.two, due.three])?)
 }
@@ -111,19 +107,17 @@ fn metered(heap: Global, power: u32, working: Days, weekend: Days) -> anyhow::Re
 fn billed(heap: Global, working: Days) -> anyhow::Result<String> {
     let mut slots = [UNUSED; 13];
     let mut account = Billing::over(&mut slots);
-    if account.open(97, 20).is_err() {
-        return Err(anyhow!("the opening is refused"));
-    }
-    if let Err(back) = account.enter(sums_of(heap, working, NOTHING)?) {
-        return Err(struck(back));
-    }
-    let Some(deposit) = account.portion(0) else {
-        return Err(anyhow!("there is no deposit"));
-    };
+    account
+        .open(97, 20)
+        .map_err(|_| anyhow!("the opening is refused"))?;
+    account
+        .enter(sums_of(heap, working, NOTHING)?)
+        .map_err(struck)?;
+    let deposit = account.portion(0).context("there is no deposit")?;
     let mut lines = [BLANK; 13];
-    let Ok(paid) = account.settle(&OldestFirst, &mut lines) else {
-        return Err(anyhow!("the settlement is refused"));
-    };
+    let paid = account
+        .settle(&OldestFirst, &mut lines)
+        .map_err(|_| anyhow!("the settlement is refused"))?;
     Ok(format!(in heap;
         "deposit {} cap {} used {} due {}",
         deposit.entered(),
