@@ -1,5 +1,5 @@
 // Worked figures of draw rules and stores.
-use crate::show;
+use crate::Figure;
 use faults::StoreFault;
 use portions::amounts::Amounts;
 use portions::dated::Dated;
@@ -10,23 +10,14 @@ use portions::rules::Rule;
 use portions::{Kind, Slot};
 use store::Store;
 
-// A slot that holds nothing yet.
-pub(crate) const UNUSED: Slot = Slot {
-    month: 0,
-    entered: 0,
-    left: 0,
-    terms: 0,
-};
-
 // What a rule takes in a month from the amounts left.
 fn show_takings<R: Rule>(
     rt: &HostRuntime,
-    name: &str,
+    figure: Figure<'_>,
     rule: &R,
     month: u16,
     left: &[u32],
     wanted: u32,
-    expected: &str,
 ) -> anyhow::Result<()> {
     let mut amounts = Amounts::new();
     for amount in left {
@@ -34,11 +25,10 @@ fn show_takings<R: Rule>(
     }
     let takings = rule.give(month, &amounts, wanted);
     let mut got = String::new(rt.alloc());
-    for i in 0..takings.len() {
-        let next = format!(in rt.alloc(); "{} ", takings.at(i))?;
-        got.push_str(next.as_str())?;
+    for taking in takings.as_slice() {
+        write!(got, "{taking} ")?;
     }
-    show(rt, name, got.as_str().trim_end(), expected)
+    figure.show(rt, got.as_str().trim_end())
 }
 
 // A seller's invoice: six months' portions, from July 2024 on, and all of them drawn in December, oldest first.
@@ -66,28 +56,26 @@ fn outlive(store: &mut Store<Energy>) -> Result<(u16, u64), StoreFault> {
 
 // What a store of energy answers.
 fn show_stores(rt: &HostRuntime) -> anyhow::Result<()> {
-    let mut slots = [UNUSED; 13];
+    let mut slots = [Slot::default(); 13];
     let mut store: Store<Energy> = Store::over(&mut slots);
     let got = match draw_invoice(&mut store) {
         Ok(used) => format!(in rt.alloc(); "{used} used, {} open", store.count())?,
         Err(fault) => format!(in rt.alloc(); "refused by {}", fault.number())?,
     };
-    show(
-        rt,
-        "six portions of an invoice",
-        got.as_str(),
-        "2461000 used, 6 open",
-    )?;
+    Figure {
+        name: "six portions of an invoice",
+        expected: "2461000 used, 6 open",
+    }
+    .show(rt, got.as_str())?;
     let got = match outlive(&mut store) {
         Ok((last, lost)) => format!(in rt.alloc(); "open in {last}, then {lost} lost")?,
         Err(fault) => format!(in rt.alloc(); "refused by {}", fault.number())?,
     };
-    show(
-        rt,
-        "a portion of month 75",
-        got.as_str(),
-        "open in 87, then 1000 lost",
-    )
+    Figure {
+        name: "a portion of month 75",
+        expected: "open in 87, then 1000 lost",
+    }
+    .show(rt, got.as_str())
 }
 
 pub(crate) fn show_draws(rt: &HostRuntime) -> anyhow::Result<()> {
@@ -102,48 +90,58 @@ pub(crate) fn show_draws(rt: &HostRuntime) -> anyhow::Result<()> {
     ];
     show_takings(
         rt,
-        "250,000 in proportion",
+        Figure {
+            name: "250,000 in proportion",
+            expected: "100000 150000",
+        },
         &Proportional,
         74,
         &halves,
         250_000,
-        "100000 150000",
     )?;
     show_takings(
         rt,
-        "2 in proportion",
+        Figure {
+            name: "2 in proportion",
+            expected: "0 1 1",
+        },
         &Proportional,
         74,
         &[1, 1, 1],
         2,
-        "0 1 1",
     )?;
     show_takings(
         rt,
-        "a seller's table in proportion",
+        Figure {
+            name: "a seller's table in proportion",
+            expected: "20560 34560 1750 2916 7583 33684 71452 66495",
+        },
         &Proportional,
         74,
         &sellers,
         239_000,
-        "20560 34560 1750 2916 7583 33684 71452 66495",
     )?;
     show_takings(
         rt,
-        "dated, in month 74",
+        Figure {
+            name: "dated, in month 74",
+            expected: "100000 150000",
+        },
         &settled,
         74,
         &halves,
         250_000,
-        "100000 150000",
     )?;
     show_takings(
         rt,
-        "dated, in month 75",
+        Figure {
+            name: "dated, in month 75",
+            expected: "200000 50000",
+        },
         &settled,
         75,
         &halves,
         250_000,
-        "200000 50000",
     )?;
     show_stores(rt)
 }

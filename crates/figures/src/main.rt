@@ -6,10 +6,21 @@ mod months;
 mod settlements;
 mod statements;
 
-// A figure beside what it should be.
-fn show(rt: &HostRuntime, name: &str, got: &str, expected: &str) -> anyhow::Result<()> {
-    println!(rt; "{name}: {got}, should be {expected}")?;
-    Ok(())
+// A figure: its name, and what it should be.
+#[derive(Clone, Copy)]
+struct Figure<'a> {
+    name: &'a str,
+    expected: &'a str,
+}
+
+impl Figure<'_> {
+    // Prints what was got beside what it should be.
+    fn show(self, rt: &HostRuntime, got: &str) -> anyhow::Result<()> {
+        let name = self.name;
+        let expected = self.expected;
+        println!(rt; "{name}: {got}, should be {expected}")?;
+        Ok(())
+    }
 }
 
 fn main(rt: HostRuntime) -> anyhow::Result<()> {

@@ -1,12 +1,12 @@
 // Worked figures of the calendar and of a month's sums.
-use crate::show;
+use crate::Figure;
 use anyhow::{Context, anyhow};
 use calendar::Month;
 use hours::{MonthPrice, Reading, Totals, sum_month};
 use std::alloc::{AllocError, Global};
 
 // The totals of a month, zone by zone, and its value and charge.
-fn show_totals(rt: &HostRuntime, name: &str, totals: Totals, expected: &str) -> anyhow::Result<()> {
+fn show_totals(rt: &HostRuntime, figure: Figure<'_>, totals: Totals) -> anyhow::Result<()> {
     let [i1, i2, i3] = totals.import;
     let [e1, e2, e3] = totals.export;
     let charge = totals.charge;
@@ -14,7 +14,7 @@ fn show_totals(rt: &HostRuntime, name: &str, totals: Totals, expected: &str) -> 
     let got = format!(in rt.alloc();
         "import {i1} {i2} {i3} export {e1} {e2} {e3} charge {charge} value {value}"
     )?;
-    show(rt, name, got.as_str(), expected)
+    figure.show(rt, got.as_str())
 }
 
 // The sums of February 2024, whose first hours are given and whose others are empty, struck once they are read off.
@@ -48,7 +48,11 @@ fn show_hours(rt: &HostRuntime, number: u16, expected: &str) -> anyhow::Result<(
     let hours = month.hours();
     let name = format!(in heap; "hours of month {number}")?;
     let got = format!(in heap; "{hours}")?;
-    show(rt, name.as_str(), got.as_str(), expected)
+    Figure {
+        name: name.as_str(),
+        expected: expected,
+    }
+    .show(rt, got.as_str())
 }
 
 // What the clock shows, hour by hour, on a day of a month.
@@ -69,7 +73,11 @@ fn show_day(rt: &HostRuntime, number: u16, day: u8, expected: &str) -> anyhow::R
     let heap = rt.alloc();
     let got = clock_hours(heap, month, day.saturating_sub(1))?;
     let name = format!(in heap; "clock hours of day {day} of month {number}")?;
-    show(rt, name.as_str(), got.as_str().trim_end(), expected)
+    Figure {
+        name: name.as_str(),
+        expected: expected,
+    }
+    .show(rt, got.as_str().trim_end())
 }
 
 // A seller's balancing table: import and export of the hours 11 to 18, in Wh.
@@ -124,14 +132,20 @@ fn show_sellers_table(rt: &HostRuntime) -> anyhow::Result<()> {
             format!(in heap; "-{given}")?
         };
         let name = format!(in heap; "balance of hour {}", k.saturating_add(11))?;
-        show(rt, name.as_str(), got.as_str(), balance)?;
+        Figure {
+            name: name.as_str(),
+            expected: balance,
+        }
+        .show(rt, got.as_str())?;
     }
     let all = february(heap, &SELLERS_HOURS, 0)?;
     show_totals(
         rt,
-        "hours 11 to 18",
+        Figure {
+            name: "hours 11 to 18",
+            expected: "import 9000 0 0 export 4500 0 0 charge 5400000000 value 0",
+        },
         all,
-        "import 9000 0 0 export 4500 0 0 charge 5400000000 value 0",
     )
 }
 
@@ -144,16 +158,20 @@ fn show_prices(rt: &HostRuntime) -> anyhow::Result<()> {
     let paid = february(rt.alloc(), &given, 50_000)?;
     show_totals(
         rt,
-        "1,000 Wh given at 50,000",
+        Figure {
+            name: "1,000 Wh given at 50,000",
+            expected: "import 0 0 0 export 1000 0 0 charge 0 value 50000000",
+        },
         paid,
-        "import 0 0 0 export 1000 0 0 charge 0 value 50000000",
     )?;
     let unpaid = february(rt.alloc(), &given, -50_000)?;
     show_totals(
         rt,
-        "1,000 Wh given at -50,000",
+        Figure {
+            name: "1,000 Wh given at -50,000",
+            expected: "import 0 0 0 export 1000 0 0 charge 0 value 0",
+        },
         unpaid,
-        "import 0 0 0 export 1000 0 0 charge 0 value 0",
     )
 }
 
@@ -169,9 +187,11 @@ fn show_saturday(rt: &HostRuntime) -> anyhow::Result<()> {
     )?;
     show_totals(
         rt,
-        "49 hours of 100 Wh from 1 February 2024",
+        Figure {
+            name: "49 hours of 100 Wh from 1 February 2024",
+            expected: "import 4800 0 100 export 0 0 0 charge 2930000000 value 0",
+        },
         totals,
-        "import 4800 0 100 export 0 0 0 charge 2930000000 value 0",
     )
 }
 

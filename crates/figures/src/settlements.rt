@@ -1,30 +1,26 @@
 // Worked figures of settlements.
-use crate::draws::UNUSED;
-use crate::show;
+use crate::Figure;
 use accounts::{Billing, Metering};
 use anyhow::{Context, anyhow};
 use hours::{MonthPrice, MonthSums, Reading, sum_month};
-use portions::Kind;
 use portions::oldest_first::OldestFirst;
+use portions::{Kind, Slot};
 use settlement::{Line, Returned};
 use std::alloc::{AllocError, Global};
 
-// A line that nothing is written into yet.
-const BLANK: Line = Line {
-    zone: 0,
-    month: 0,
-    used: 0,
-    left: 0,
-};
-
 // What is taken and given on two days, in Wh.
-#[derive(Clone, Copy)]
+#[derive(Clone, Copy, Default)]
 struct Days {
     taken: u32,
     given: u32,
 }
 
-const NOTHING: Days = Days { taken: 0, given: 0 };
+// What is taken and given in February 2024: on its first Thursday and Friday, and on the weekend after them.
+#[derive(Clone, Copy)]
+struct Use {
+    working: Days,
+    weekend: Days,
+}
 
 // The readings of two days, at most 100,000 Wh in an hour.
 fn push_days(readings: &mut Vec<Reading>, days: Days) -> Result<(), AllocError> {
@@ -40,11 +36,11 @@ fn push_days(readings: &mut Vec<Reading>, days: Days) -> Result<(), AllocError> 
     Ok(())
 }
 
-// The readings of February 2024: of its first Thursday and Friday, of the weekend after them, and nothing else.
-fn readings_of(heap: Global, working: Days, weekend: Days) -> Result<Vec<Reading>, AllocError> {
+// The readings of February 2024: of these four days, and nothing else in its other hours.
+fn readings_of(heap: Global, used: Use) -> Result<Vec<Reading>, AllocError> {
     let mut readings = Vec::new(heap);
-    push_days(&mut readings, working)?;
-    push_days(&mut readings, weekend)?;
+    push_days(&mut readings, used.working)?;
+    push_days(&mut readings, used.weekend)?;
     for _ in 0..600 {
         readings.push(Reading {
             import: 0,
@@ -55,8 +51,8 @@ fn readings_of(heap: Global, working: Days, weekend: Days) -> Result<Vec<Reading
 }
 
 // Their sums: working days in zone 1, weekends in zone 2, every sale price 600,000 and every price 300,000 gr per MWh.
-fn sums_of(heap: Global, working: Days, weekend: Days) -> anyhow::Result<MonthSums> {
-    let readings = readings_of(heap, working, weekend)?;
+fn sums_of(heap: Global, used: Use) -> anyhow::Result<MonthSums> {
+    let readings = readings_of(heap, used)?;
     let mut source = MonthPrice::new(97, 300_000).map_err(|_| anyhow!("the price is refused"))?;
     sum_month(97, [[1; 24], [2; 24]], [600_000; 3], &readings, &mut source).map_err(|_| anyhow!(
         "the month is refused"
@@ -77,7 +73,9 @@ fn told(heap: Global, lines: &[Line], count: usize, due: [u32; 3]) -> Result<Str
         write!(
             text,
             "zone {} used {} left {}, ",
-            line.zone, line.used, line.left
+            line.zone_number(),
+            line.used,
+            line.left
         )?;
     }
     let [one, two, three] = due;
@@ -86,16 +84,18 @@ fn told(heap: Global, lines: &[Line], count: usize, due: [u32; 3]) -> Result<Str
 }
 
 // A month of a metering account of so much power, settled oldest first.
-fn metered(heap: Global, power: u32, working: Days, weekend: Days) -> anyhow::Result<String> {
-    let (mut one, mut two, mut three) = ([UNUSED; 13], [UNUSED; 13], [UNUSED; 13]);
+fn metered(heap: Global, power: u32, used: Use) -> anyhow::Result<String> {
+    let (mut one, mut two, mut three) = (
+        [Slot::default(); 13],
+        [Slot::default(); 13],
+        [Slot::default(); 13],
+    );
     let mut account = Metering::over(&mut one, &mut two, &mut three);
     account
         .open(97, power, 1)
         .map_err(|_| anyhow!("the opening is refused"))?;
-    account
-        .enter(sums_of(heap, working, weekend)?)
-        .map_err(struck)?;
-    let mut lines = [BLANK; 39];
+    account.enter(sums_of(heap, used)?).map_err(struck)?;
+    let mut lines = [Line::default(); 39];
     let settled = account
         .settle(&OldestFirst, &mut lines)
         .map_err(|_| anyhow!("the settlement is refused"))?;
@@ -105,16 +105,22 @@ fn metered(heap: Global, power: u32, working: Days, weekend: Days) -> anyhow::Re
 
 // A month of a billing account that caps refunds at 20 percent: its deposit with the cap, and the bill settled oldest first.
 fn billed(heap: Global, working: Days) -> anyhow::Result<String> {
-    let mut slots = [UNUSED; 13];
+    let mut slots = [Slot::default(); 13];
     let mut account = Billing::over(&mut slots);
     account
         .open(97, 20)
         .map_err(|_| anyhow!("the opening is refused"))?;
     account
-        .enter(sums_of(heap, working, NOTHING)?)
+        .enter(sums_of(
+            heap,
+            Use {
+                working,
+                weekend: Days::default(),
+            },
+        )?)
         .map_err(struck)?;
     let deposit = account.portion(0).context("there is no deposit")?;
-    let mut lines = [BLANK; 13];
+    let mut lines = [Line::default(); 13];
     let paid = account
         .settle(&OldestFirst, &mut lines)
         .map_err(|_| anyhow!("the settlement is refused"))?;
@@ -127,21 +133,14 @@ fn billed(heap: Global, working: Days) -> anyhow::Result<String> {
     )?)
 }
 
-fn show_metered(
-    rt: &HostRuntime,
-    name: &str,
-    power: u32,
-    working: Days,
-    weekend: Days,
-    expected: &str,
-) -> anyhow::Result<()> {
-    let got = metered(rt.alloc(), power, working, weekend)?;
-    show(rt, name, got.as_str(), expected)
+fn show_metered(rt: &HostRuntime, figure: Figure<'_>, power: u32, used: Use) -> anyhow::Result<()> {
+    let got = metered(rt.alloc(), power, used)?;
+    figure.show(rt, got.as_str())
 }
 
-fn show_billed(rt: &HostRuntime, name: &str, working: Days, expected: &str) -> anyhow::Result<()> {
+fn show_billed(rt: &HostRuntime, figure: Figure<'_>, working: Days) -> anyhow::Result<()> {
     let got = billed(rt.alloc(), working)?;
-    show(rt, name, got.as_str(), expected)
+    figure.show(rt, got.as_str())
 }
 
 pub(crate) fn show_settlements(rt: &HostRuntime) -> anyhow::Result<()> {
@@ -155,11 +154,15 @@ pub(crate) fn show_settlements(rt: &HostRuntime) -> anyhow::Result<()> {
     };
     show_metered(
         rt,
-        "zones that help each other",
+        Figure {
+            name: "zones that help each other",
+            expected: "zone 1 used 525000 left 75000, zone 2 used 100000 left 0, zone 3 used 0 left 0, due 0 0 0",
+        },
         10_000,
-        peak,
-        off_peak,
-        "zone 1 used 525000 left 75000, zone 2 used 100000 left 0, zone 3 used 0 left 0, due 0 0 0",
+        Use {
+            working: peak,
+            weekend: off_peak,
+        },
     )?;
     let year = Days {
         taken: 2_006_000,
@@ -167,11 +170,15 @@ pub(crate) fn show_settlements(rt: &HostRuntime) -> anyhow::Result<()> {
     };
     show_metered(
         rt,
-        "a store that does not suffice",
+        Figure {
+            name: "a store that does not suffice",
+            expected: "zone 1 used 2461000 left 0, zone 2 used 0 left 0, zone 3 used 0 left 0, due 37200 0 0",
+        },
         10_000,
-        year,
-        NOTHING,
-        "zone 1 used 2461000 left 0, zone 2 used 0 left 0, zone 3 used 0 left 0, due 37200 0 0",
+        Use {
+            working: year,
+            weekend: Days::default(),
+        },
     )?;
     let ample = Days {
         taken: 1_000,
@@ -179,20 +186,28 @@ pub(crate) fn show_settlements(rt: &HostRuntime) -> anyhow::Result<()> {
     };
     show_metered(
         rt,
-        "over 10 kW",
+        Figure {
+            name: "over 10 kW",
+            expected: "zone 1 used 1429 left 98571, zone 2 used 0 left 0, zone 3 used 0 left 0, due 0 0 0",
+        },
         10_001,
-        ample,
-        NOTHING,
-        "zone 1 used 1429 left 98571, zone 2 used 0 left 0, zone 3 used 0 left 0, due 0 0 0",
+        Use {
+            working: ample,
+            weekend: Days::default(),
+        },
     )?;
     let least = Days { taken: 1, given: 1 };
     show_metered(
         rt,
-        "1 Wh",
+        Figure {
+            name: "1 Wh",
+            expected: "zone 1 used 1 left 0, zone 2 used 0 left 0, zone 3 used 0 left 0, due 1 0 0",
+        },
         10_000,
-        least,
-        NOTHING,
-        "zone 1 used 1 left 0, zone 2 used 0 left 0, zone 3 used 0 left 0, due 1 0 0",
+        Use {
+            working: least,
+            weekend: Days::default(),
+        },
     )?;
     let paid = Days {
         taken: 100_000,
@@ -200,8 +215,10 @@ pub(crate) fn show_settlements(rt: &HostRuntime) -> anyhow::Result<()> {
     };
     show_billed(
         rt,
-        "a deposit of 30,000,000,000 and a bill",
+        Figure {
+            name: "a deposit of 30,000,000,000 and a bill",
+            expected: "deposit 36900 cap 6000 used 36900 due 23100",
+        },
         paid,
-        "deposit 36900 cap 6000 used 36900 due 23100",
     )
 }
