@@ -1,5 +1,5 @@
 -- The hours before a day of a month: 24 for each day, but for the change of the clocks on the last Sunday.
-use Rattle.std.proofs.Common.{◌≡◌, ℕ, zero, suc, ◌+◌, ◌-◌, ◌*◌, ◌/◌, ◌%◌, ◌<◌, ◌≤◌, Bool, true, false, cond, ◌&&◌, T, eqb, ltb, leb, Some, None, Option, sym, refl, ap, ◌∙◌, subst, inl, inr, le_trans, le_refl, le_of_suc-le-suc, le-add_right, add-zero, le_of_lt, add-suc, arith}
+use Rattle.std.proofs.Common.{◌≡◌, ℕ, zero, suc, ◌+◌, ◌-◌, ◌*◌, ◌/◌, ◌%◌, ◌<◌, ◌≤◌, Bool, true, false, cond, ◌&&◌, T, eqb, ltb, leb, Some, sym, refl, ap, ◌∙◌, subst, inl, inr, le_trans, le_refl, le_of_suc-le-suc, le-add_right, add-zero, le_of_lt, add-suc, arith}
 use Rattle.std.proofs.lemmas.Bool.Decides.{nat_tests, leb_tells}
 use Rattle.calendar.specs.declared.month.days.Hour.{Hour}
 use Rattle.calendar.specs.Sums.{sum_to}
@@ -139,11 +139,7 @@ found m p d (suc n) h b u =
     (λ z. found m p d n (le_of_suc-le-suc z) b u))
 
 same_hour : (h : Hour) (d c : ℕ) (w : Bool) → h.day ≡ d → h.clock ≡ c → h.weekend ≡ w → h ≡ record { day = d; clock = c; weekend = w }
-same_hour h d c w p q r =
-    let F : ℕ → Hour = λ x. record { day = x; clock = h.clock; weekend = h.weekend } in
-    let G : ℕ → Hour = λ x. record { day = d; clock = x; weekend = h.weekend } in
-    let K : Bool → Hour = λ x. record { day = d; clock = c; weekend = x } in
-    ap F p ∙ ap G q ∙ ap K r
+same_hour h d c w p q r = rw (sym p, sym q, sym r) refl
 
 pub hour_is : (m p : ℕ) (h : Hour) → HourAt m p h → h ≡ hour_of_place m p
 unfolding day_at
@@ -172,16 +168,6 @@ clock_within m p k =
     let c : e % 24 < 24 = omega arith in
     subst (λ (h : Hour). h.clock < 24) (hour_is m p _ a) c
 
-some_same : (a b : Hour) → Some a ≡ Some b → a ≡ b
-some_same a b e = cc
-
-not_none : (h : Hour) → ◌≡◌ {A = Option Hour} (Some h) None → ⊥
-not_none h e = let z : ◌≡◌ {A = ℕ} 0 1 = cc in omega arith
-
 -- an hour that is found lies inside the month, and is the one at its place
 pub found_inside : (m p : ℕ) (h : Hour) → Some h ≡ hour_of m p → (p < month_hours m) × (h ≡ hour_of_place m p)
-found_inside m p h e =
-    elim (leb_tells (suc p) (month_hours m)) [
-      | inl t ↦ (t.1, some_same _ _ (e ∙ ap (λ (b : Bool). cond b (Some (hour_of_place m p)) None) t.0))
-      | inr t ↦ absurd (not_none _ (e ∙ ap (λ (b : Bool). cond b (Some (hour_of_place m p)) None) t.0))
-    ]
+found_inside m p h e = (grind (arith, nat_tests), grind (arith, nat_tests))

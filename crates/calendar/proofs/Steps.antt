@@ -1,16 +1,8 @@
 -- A table that begins at 0 and steps by the length of each month is `days_before_month` at each of its entries.
-use Rattle.std.proofs.Common.{◌≡◌, ℕ, zero, suc, ◌+◌, ◌*◌, ◌<◌, ◌≤◌, Bool, true, false, ◌&&◌, T, eqb, List, [], ◌∷◌, length, get_or, sym, ap, ◌∙◌, le_of_suc-le-suc, not-suc-le-zero, add-zero, add-suc, suc-add, zero-add, arith, eqb→eq}
+use Rattle.std.proofs.Common.{◌≡◌, ℕ, zero, suc, ◌+◌, ◌*◌, ◌<◌, ◌≤◌, T, List, [], ◌∷◌, length, get_or, sym, ap, ◌∙◌, le_of_suc-le-suc, not-suc-le-zero, add-zero, add-suc, suc-add, zero-add, arith}
 use Rattle.std.proofs.lemmas.Bool.Decides.{nat_tests}
 use Rattle.calendar.specs.Sums.{sum_to}
 use Rattle.calendar.specs.Calendar.{steps_from, steps, days_of_month, days_before_month}
-
-left : (a b : Bool) → T (a && b) → T a
-left true b t = tt
-left false b t = t
-
-right : (a b : Bool) → T (a && b) → T b
-right true b t = t
-right false b t = absurd t
 
 from : (xs : List ℕ) (m : ℕ) → T (steps_from m xs) → get_or xs 0 0 ≡ days_before_month m → (k : ℕ) → k < length xs → get_or xs k 0 ≡ days_before_month (m + k)
 unfolding days_before_month sum_to
@@ -18,16 +10,15 @@ from [] m t e k h = absurd (not-suc-le-zero h)
 from (x ∷ xs) m t e zero h = e ∙ ap days_before_month (sym (add-zero m))
 from (x ∷ []) m t e (suc k) h = absurd (not-suc-le-zero (le_of_suc-le-suc h))
 from (x ∷ (y ∷ ys)) m t e (suc k) h =
-    let s = eqb→eq y (x + days_of_month m) (left (eqb y (x + days_of_month m)) _ t) in
-    from (y ∷ ys) (suc m) (right (eqb y (x + days_of_month m)) _ t) (s ∙ ap (λ n. n + days_of_month m) e) k (le_of_suc-le-suc h)
+    let s : y ≡ x + days_of_month m = grind (arith, nat_tests) in
+    from (y ∷ ys) (suc m) (grind (arith, nat_tests)) (s ∙ ap (λ n. n + days_of_month m) e) k (le_of_suc-le-suc h)
     ∙ ap days_before_month (suc-add m k ∙ sym (add-suc m k))
 
 pub entry : (xs : List ℕ) → T (steps xs) → (m : ℕ) → m < 1200 → get_or xs m 0 ≡ days_before_month m
 unfolding days_before_month sum_to
 entry xs t m h =
-    let l : length xs ≡ 1200 = eqb→eq (length xs) 1200 (left (eqb (length xs) 1200) _ t) in
-    let u : T (eqb (get_or xs 0 0) 0 && steps_from 0 xs) = right (eqb (length xs) 1200) _ t in
-    from xs 0 (right (eqb (get_or xs 0 0) 0) _ u) (eqb→eq (get_or xs 0 0) 0 (left (eqb (get_or xs 0 0) 0) _ u)) m (omega arith)
+    let l : length xs ≡ 1200 = grind (arith, nat_tests) in
+    from xs 0 (grind (arith, nat_tests)) (grind (arith, nat_tests)) m (omega arith)
     ∙ ap days_before_month (zero-add m)
 
 pub at_most : (m : ℕ) → days_before_month m ≤ 31 * m

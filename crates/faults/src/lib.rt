@@ -140,6 +140,7 @@ impl AccountFault {
     }
 }
 
+// This and the two impls of From below are by hand: clauses name the error that `?` makes, and a derived From promises none.
 impl From<StoreFault> for AccountFault {
     ghost from_gives = { λ fault r. r ≡ InStore fault };
 

@@ -44,34 +44,31 @@ pub struct Input {
 fn in_line<T>(line: usize, parsed: Result<T, Reason>) -> Result<T, Complaint>
     ensures { elim parsed [ Ok x ↦ result ≡ Ok x | Err e ↦ result ≡ Err (Complaint.Line line e) ] }
 {
-    match parsed {
-        Ok(value) => Ok(value),
-        Err(reason) => Err(Complaint::Line { line, reason }),
-    }
+    parsed.map_err(|reason| Complaint::Line { line, reason })
 }
 
 fn parse_price(word: &str) -> Result<i32, Reason>
     ensures { ParsesSigned w32 10 word.now result }
 {
-    word.parse::<i32>().or(Err(Reason::Price))
+    word.parse::<i32>().map_err(|_| Reason::Price)
 }
 
 fn parse_sale(word: &str) -> Result<u32, Reason>
     ensures { ParsesUnsigned 32 10 word.now result }
 {
-    word.parse::<u32>().or(Err(Reason::SalePrice))
+    word.parse::<u32>().map_err(|_| Reason::SalePrice)
 }
 
 fn parse_mark(word: &str) -> Result<u8, Reason>
     ensures { ParsesUnsigned 8 10 word.now result }
 {
-    word.parse::<u8>().or(Err(Reason::Mark))
+    word.parse::<u8>().map_err(|_| Reason::Mark)
 }
 
 fn parse_energy(word: &str) -> Result<u32, Reason>
     ensures { ParsesUnsigned 32 10 word.now result }
 {
-    word.parse::<u32>().or(Err(Reason::Energy))
+    word.parse::<u32>().map_err(|_| Reason::Energy)
 }
 
 fn parse_terms(line: Option<&str>) -> Result<Terms, Reason> {
@@ -109,10 +106,7 @@ fn parse_hour(line: &str) -> Result<HourLine, Reason> {
         import: parse_energy(words.next().ok_or(Reason::ReadingCount)?)?,
         export: parse_energy(words.next().ok_or(Reason::ReadingCount)?)?,
     };
-    let price = match words.next() {
-        Some(word) => Some(parse_price(word)?),
-        None => None,
-    };
+    let price = words.next().map(parse_price).transpose()?;
     if words.next().is_some() {
         return Err(Reason::ReadingCount);
     }

@@ -29,11 +29,9 @@ fn month_table(heap: Global, text: &str) -> Result<String, Complaint> {
 }
 
 fn run(rt: &HostRuntime) -> Result<(), Complaint> {
-    let Ok(text) = io::read_to_string(rt.alloc(), rt.stdin()) else {
-        return Err(Complaint::Unreadable);
-    };
+    let text = io::read_to_string(rt.alloc(), rt.stdin()).map_err(|_| Complaint::Unreadable)?;
     let table = month_table(rt.alloc(), text.as_str())?;
-    rt.print(table.as_str()).or(Err(Complaint::Unwritable))
+    rt.print(table.as_str()).map_err(|_| Complaint::Unwritable)
 }
 
 fn main(rt: HostRuntime) -> ExitCode {

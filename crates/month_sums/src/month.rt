@@ -41,24 +41,19 @@ impl fmt::Display for MonthName {
 fn month_number(year: u16, month: u8) -> Option<u16>
     ensures { elim result [ Some n ↦ (n < 1200) × (year_of n ≡ year) × (calendar_month_of n ≡ month) | None ↦ ((n : ℕ) → n < 1200 → year_of n ≡ year → calendar_month_of n ≢ month) ] }
 {
-    match Month::of_year(year, month) {
-        Some(found) => Some(found.number()),
-        None => None,
-    }
+    Month::of_year(year, month).map(|found| found.number())
 }
 
 // The number of the month that a text names.
 pub(crate) fn parse_month(text: &str) -> Result<u16, Reason>
     ensures { IfOk result (λ n. n < 1200) }
 {
-    let Some((year, month)) = text.split_once('-') else {
-        return Err(Reason::MonthText);
-    };
+    let (year, month) = text.split_once('-').ok_or(Reason::MonthText)?;
     // A number may begin with a plus sign, and a year or a month may not.
     if year.len() != 4 || month.len() != 2 || text.contains('+') {
         return Err(Reason::MonthText);
     }
-    let year = year.parse::<u16>().or(Err(Reason::MonthText))?;
-    let month = month.parse::<u8>().or(Err(Reason::MonthText))?;
+    let year = year.parse::<u16>().map_err(|_| Reason::MonthText)?;
+    let month = month.parse::<u8>().map_err(|_| Reason::MonthText)?;
     month_number(year, month).ok_or(Reason::Library(BookFault::MonthOutOfRange))
 }

@@ -29,11 +29,18 @@ fn refusal_line(refused: MonthRefused, marks: &[[u8; 24]; 2]) -> usize
     }
 }
 
+// The complaint that the library refused what a line has.
+pub(crate) fn refused_in(line: usize, fault: BookFault) -> Complaint
+    ensures { result ≡ refused_in line fault }
+{
+    Complaint::Line {
+        line,
+        reason: Reason::Library(fault),
+    }
+}
+
 pub(crate) fn complaint_of(refused: MonthRefused, marks: &[[u8; 24]; 2]) -> Complaint
     ensures { result ≡ refused_in (line_of_refusal refused.fault (each_zone (slice_index_or marks.now 0 [])) refused.read) refused.fault }
 {
-    Complaint::Line {
-        line: refusal_line(refused, marks),
-        reason: Reason::Library(refused.fault),
-    }
+    refused_in(refusal_line(refused, marks), refused.fault)
 }

@@ -3,9 +3,9 @@ ghost use Rattle.std.specs.Prelude.{◌≡◌, ℕ, ◌<◌, ◌≤◌, length, 
 ghost use Rattle.hours.specs.Price.{Priced};
 ghost use Rattle.month_sums.specs.Told.{PriceTold, SumsOf, Told};
 
-use crate::complaint::{Complaint, Reason};
+use crate::complaint::Complaint;
 use crate::input::Input;
-use crate::refusal::{complaint_of, hour_line};
+use crate::refusal::{complaint_of, hour_line, refused_in};
 use hours::{HourPrices, MonthPrice, MonthSums, StandIn, sum_month};
 
 // The place of the first price that no source takes, or their count where every one is in range.
@@ -14,12 +14,10 @@ fn first_refused(month: u16, prices: &[i32]) -> usize
     ensures before { (k : ℕ) → k < result → Priced (slice_index_or prices.now k (pos 0)) }
     ensures found { result < length prices.now → Priced (slice_index_or prices.now result (pos 0)) → ⊥ }
 {
-    for (place, price) in prices.iter().enumerate() {
-        if MonthPrice::new(month, *price).is_err() {
-            return place;
-        }
-    }
-    prices.len()
+    prices
+        .iter()
+        .position(|price| MonthPrice::new(month, *price).is_err())
+        .unwrap_or(prices.len())
 }
 
 // The hours' own prices over the month price. A price out of range is told with its line.
@@ -32,23 +30,10 @@ fn source_of(
     ensures lower { IfOk result (λ s. (s.lower.month ≡ month) × (s.lower.price ≡ price)) }
     ensures refusal { IfErr result (λ e. PriceTold price prices.items e) }
 {
-    let lower = match MonthPrice::new(month, price) {
-        Ok(lower) => lower,
-        Err(fault) => {
-            return Err(Complaint::Line {
-                line: 1,
-                reason: Reason::Library(fault),
-            });
-        }
-    };
+    let lower = MonthPrice::new(month, price).map_err(|fault| refused_in(1, fault))?;
     let line = hour_line(first_refused(month, &prices));
-    match HourPrices::new(month, prices) {
-        Ok(upper) => Ok(StandIn { upper, lower }),
-        Err(fault) => Err(Complaint::Line {
-            line,
-            reason: Reason::Library(fault),
-        }),
-    }
+    let upper = HourPrices::new(month, prices).map_err(|fault| refused_in(line, fault))?;
+    Ok(StandIn { upper, lower })
 }
 
 // The sums over all hours of the input, zone by zone as marked.
@@ -62,14 +47,12 @@ pub(crate) fn sums_of(input: Input) -> Result<MonthSums, Complaint>
         hours,
     } = input;
     let mut source = source_of(terms.month, terms.price, hours.prices)?;
-    match sum_month(
+    sum_month(
         terms.month,
         marks,
         terms.sale,
         hours.readings.as_slice(),
         &mut source,
-    ) {
-        Ok(sums) => Ok(sums),
-        Err(refused) => Err(complaint_of(refused, &marks)),
-    }
+    )
+    .map_err(|refused| complaint_of(refused, &marks))
 }

@@ -31,7 +31,7 @@ impl fmt::Display for Kwh {
     }
 }
 
-// Money in złoty, with eight decimals.
+// Money in złoty, with eight decimals. One type for both would take unit, size and width as parameters: no plainer.
 #[derive(Clone, Copy)]
 struct Zloty {
     whole: u64,
@@ -96,10 +96,11 @@ impl fmt::Display for Table {
         let hours = self.hours;
         writeln!(f, "month {month} (number {number}), {hours} hours read")?;
         writeln!(f, "zone      import kWh      export kWh")?;
-        for zone in 0..3usize {
-            let import = Kwh::of(self.energies.import[zone]);
-            let export = Kwh::of(self.energies.export[zone]);
-            writeln!(f, "{:>4}{import}{export}", zone + 1)?;
+        let zones = self.energies.import.iter().zip(self.energies.export.iter());
+        for (place, (import, export)) in zones.enumerate() {
+            let import = Kwh::of(*import);
+            let export = Kwh::of(*export);
+            writeln!(f, "{:>4}{import}{export}", place + 1)?;
         }
         let value = Zloty::of(self.value);
         let charge = Zloty::of(self.charge);

@@ -12,10 +12,7 @@ const WEEKEND: &str = "3 3 3 3 3 3 3 3 3 3 3 3 3 3 3 3 3 3 3 3 3 3 3 3";
 
 // What is told of a text: a complaint, or else the table.
 fn told(heap: Global, text: &str) -> Result<String, AllocError> {
-    match month_table(heap, text) {
-        Ok(table) => Ok(table),
-        Err(complaint) => format!(in heap; "{complaint}"),
-    }
+    month_table(heap, text).or_else(|complaint| format!(in heap; "{complaint}"))
 }
 
 // The complaint about lines of hours below good terms and marks.

@@ -1,10 +1,17 @@
-use Rattle.std.proofs.Common.{inr}
+use Rattle.std.proofs.Common.{◌≡◌, inr, ap, ◌∙◌, arith}
+use Rattle.std.proofs.lemmas.Grind.{common_steps}
+use Rattle.std.proofs.lemmas.Result.{err_from_is_err_and}
+use Rattle.faults.specs.declared.BookFault.TheVariants.{PriceOutOfRange}
+use Rattle.hours.specs.Price.{AllPriced}
+use Rattle.month_sums.specs.Lines.{refused_in}
 use Rattle.month_sums.proofs.Outs.{first_out}
 use Rattle.month_sums.proofs.sums.source_of.Goals as goal
 
-pub returns-in-Err-new : goal.returns-in-Err-new
-returns-in-Err-new c =
+pub returns-in_err-upper-clause-refusal : goal.returns-in_err-upper-clause-refusal
+returns-in_err-upper-clause-refusal c =
     let f = c.first_refused.ensures in
-    let n = c.in-Err-new.ensures in
-    let out = first_out _ _ _ c.deref.ensures.value f.within f.before f.found n.0 in
-    record { upper = tt; lower = tt; refusal = inr (c.first_refused.result, out, rw (c.hour_line-line.ensures, n.1)) }
+    let e = c.in_err-upper.field-0.0 in
+    let r = err_from_is_err_and c.from_residual-in_err-upper.result c.from_residual-in_err-upper.ensures.1 in
+    let made : (AllPriced c.args.prices.items → ⊥) × (e ≡ refused_in c.hour_line-line.result PriceOutOfRange) = grind (arith, common_steps) in
+    let out = first_out _ _ _ c.deref.ensures.value f.within f.before f.found made.0 in
+    rw (r.1, r.2) (inr (c.first_refused.result, out, made.1 ∙ ap (λ n. refused_in n PriceOutOfRange) c.hour_line-line.ensures))
