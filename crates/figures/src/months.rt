@@ -2,7 +2,7 @@
 use crate::Figure;
 use anyhow::{Context, anyhow};
 use calendar::Month;
-use hours::{MonthPrice, Reading, Totals, sum_month};
+use hours::{MonthPrice, Reading, Tariff, Totals, sum_month};
 use std::alloc::{AllocError, Global};
 
 // The totals of a month, zone by zone, and its value and charge.
@@ -28,14 +28,13 @@ fn february(heap: Global, first: &[Reading], price: i32) -> anyhow::Result<Total
         })?;
     }
     let mut source = MonthPrice::new(97, price).map_err(|_| anyhow!("the price is refused"))?;
-    let sums = sum_month(
-        97,
-        [[1; 24], [3; 24]],
-        [600_000, 0, 500_000],
-        &readings,
-        &mut source,
-    )
-    .map_err(|_| anyhow!("the month is refused"))?;
+    let tariff = Tariff {
+        marks: [[1; 24], [3; 24]],
+        sale: [600_000, 0, 500_000],
+    };
+    let sums = sum_month(97, tariff, &readings, &mut source).map_err(|_| anyhow!(
+        "the month is refused"
+    ))?;
     let totals = sums.totals();
     let _ = sums.strike();
     Ok(totals)

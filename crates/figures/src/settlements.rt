@@ -2,7 +2,7 @@
 use crate::Figure;
 use accounts::{Billing, Metering};
 use anyhow::{Context, anyhow};
-use hours::{MonthPrice, MonthSums, Reading, sum_month};
+use hours::{MonthPrice, MonthSums, Reading, Tariff, sum_month};
 use portions::oldest_first::OldestFirst;
 use portions::{Kind, Slot};
 use settlement::{Line, Returned};
@@ -54,9 +54,11 @@ fn readings_of(heap: Global, used: Use) -> Result<Vec<Reading>, AllocError> {
 fn sums_of(heap: Global, used: Use) -> anyhow::Result<MonthSums> {
     let readings = readings_of(heap, used)?;
     let mut source = MonthPrice::new(97, 300_000).map_err(|_| anyhow!("the price is refused"))?;
-    sum_month(97, [[1; 24], [2; 24]], [600_000; 3], &readings, &mut source).map_err(|_| anyhow!(
-        "the month is refused"
-    ))
+    let tariff = Tariff {
+        marks: [[1; 24], [2; 24]],
+        sale: [600_000; 3],
+    };
+    sum_month(97, tariff, &readings, &mut source).map_err(|_| anyhow!("the month is refused"))
 }
 
 // Strikes sums that an account handed back.
