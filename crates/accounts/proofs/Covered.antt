@@ -16,9 +16,6 @@ use Rattle.settlement.proofs.Lines.{length_lines_of}
 use Rattle.accounts.specs.Bounds.{Known}
 
 module _ (rule : Rule) (a : MeterAccount) (end : Course) (is : end ≡ settled_course rule a) where
-  pub same_months : (z : Zone) → (of z end.stores).month ≡ (of z a.stores).month
-  same_months z = ap (λ (x : Course). (of z x.stores).month) is ∙ covers_month rule a.coefficient (own_stores ++ other_stores) (outset a) z
-
   known_in : (z : Zone) → length (of z end.stores).portions ≤ length (lefts (of z a.stores))
   known_in z =
       let same = ap (λ (x : Course). length (of z x.stores).portions) is ∙ covers_length rule a.coefficient (own_stores ++ other_stores) (outset a) z in

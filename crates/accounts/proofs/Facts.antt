@@ -48,11 +48,3 @@ module _ {K T : Type 0} (k : Ghosts K T) (s : Shelf K T) (sound : Sound s) where
     -- a store that has turned has no portion of its month
     pub turned_free : FreeIn (ledger_of k s')
     turned_free = subst (λ (l : Ledger T). FreeIn l) (sym is) (has_kept (s.month + 1) (stays_in k.life (s.month + 1)) (ledger_of k s).portions none_next)
-
-    -- and what the turn ended is little
-    pub turned_small : refunds (kind_of k) (ledger_of k s) + losses (kind_of k) (ledger_of k s) ≤ 120000000000
-    turned_small =
-        let p = parts s' sound' in
-        let r = ap (λ (l : Ledger T). l.refunded) is in
-        let x = ap (λ (l : Ledger T). l.lost) is in
-        omega (arith, r, x, p.balance, totals_small s' p)
