@@ -2,7 +2,7 @@
 use Rattle.std.proofs.Common.{◌≡◌, ℕ, zero, suc, ◌≤◌, List, [], ◌∷◌, length, get_or, Some, None, Option, ap, arith}
 use Rattle.std.specs.List.{slice_get}
 use Rattle.portions.specs.Portions.{Portion}
-use Rattle.shelf.specs.Reading.{told}
+use Rattle.store.specs.Reading.{told}
 use Rattle.settlement.specs.declared.answers.Line.{Line}
 use Rattle.settlement.specs.Lines.{line_of, lines_of}
 

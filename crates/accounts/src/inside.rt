@@ -7,17 +7,17 @@ ghost use Rattle.ledger.specs.Ledger.{opening};
 ghost use Rattle.ledger.specs.Steps.{entering, takings, drawing, turning, refunds, losses};
 ghost use Rattle.settlement.specs.Answers.{answers};
 ghost use Rattle.settlement.specs.Standing.{asks};
-ghost use Rattle.shelf.specs.Held.{room};
-ghost use Rattle.shelf.specs.Reading.{kind_of, ledger_of};
-ghost use Rattle.shelf.specs.Slots.{Accounted};
-ghost use Rattle.shelf.specs.Sound.{Sound};
+ghost use Rattle.store.specs.Held.{room};
+ghost use Rattle.store.specs.Reading.{kind_of, ledger_of};
+ghost use Rattle.store.specs.Slots.{Accounted};
+ghost use Rattle.store.specs.Sound.{Sound};
 ghost use Rattle.accounts.specs.Bounds.{FreeIn};
 ghost use Rattle.accounts.specs.Slots.{SameSlots, Drawn};
 
 use faults::{AccountFault, StoreFault};
 use portions::Kind;
 use portions::rules::Rule;
-use shelf::Shelf;
+use store::Store;
 
 // The slots that a store of an account has to have: for a month's portion and those of the twelve months before it.
 const FEWEST_SLOTS: usize = 13;
@@ -48,7 +48,7 @@ pub(crate) fn month_in_range(month: u16) -> Result<(), AccountFault>
 }
 
 // Opens a store that has the slots, for a month that can be.
-pub(crate) fn open_store<K: Kind>(store: &mut Shelf<K>, month: u16)
+pub(crate) fn open_store<K: Kind>(store: &mut Store<K>, month: u16)
     requires sound { Sound store.old }
     requires roomy { K.Kind.life < room store.old }
     requires low { 47 ≤ month }
@@ -61,7 +61,7 @@ pub(crate) fn open_store<K: Kind>(store: &mut Shelf<K>, month: u16)
 }
 
 // Enters an amount that is not too large, in a month that has no portion yet.
-pub(crate) fn enter_store<K: Kind>(store: &mut Shelf<K>, amount: u32, terms: K::Terms)
+pub(crate) fn enter_store<K: Kind>(store: &mut Store<K>, amount: u32, terms: K::Terms)
     requires sound { Sound store.old }
     requires ready { (ledger_of K.Kind store.old).opened ≡ true }
     requires small { amount ≤ 100000000 }
@@ -74,7 +74,7 @@ pub(crate) fn enter_store<K: Kind>(store: &mut Shelf<K>, amount: u32, terms: K::
 }
 
 // Draws an amount that is not too large: the sum taken.
-pub(crate) fn draw_store<K: Kind, R: Rule>(store: &mut Shelf<K>, rule: &R, wanted: u32) -> u32
+pub(crate) fn draw_store<K: Kind, R: Rule>(store: &mut Store<K>, rule: &R, wanted: u32) -> u32
     requires sound { Sound store.old }
     requires ready { (ledger_of K.Kind store.old).opened ≡ true }
     requires small { wanted ≤ 1000000000 }
@@ -91,7 +91,7 @@ pub(crate) fn draw_store<K: Kind, R: Rule>(store: &mut Shelf<K>, rule: &R, wante
 }
 
 // Turns a store that is not in its last month: its refunds and losses.
-pub(crate) fn turn_store<K: Kind>(store: &mut Shelf<K>) -> (u64, u64)
+pub(crate) fn turn_store<K: Kind>(store: &mut Store<K>) -> (u64, u64)
     requires sound { Sound store.old }
     requires ready { (ledger_of K.Kind store.old).opened ≡ true }
     requires early { (ledger_of K.Kind store.old).month < 1199 }

@@ -4,13 +4,13 @@ ghost use Rattle.std.proofs.Math.Seq.{paste};
 ghost use Rattle.std.specs.List.{slice_get};
 ghost use Rattle.portions.specs.Listed.{listed};
 ghost use Rattle.settlement.specs.Lines.{line_of, lines_of};
-ghost use Rattle.shelf.specs.Reading.{ledger_of, told};
-ghost use Rattle.shelf.specs.Sound.{Sound};
+ghost use Rattle.store.specs.Reading.{ledger_of, told};
+ghost use Rattle.store.specs.Sound.{Sound};
 
 use portions::Kind;
 use portions::amounts::Amounts;
 use settlement::Line;
-use shelf::Shelf;
+use store::Store;
 
 // The line of a portion that had `was` left.
 fn line<K: Kind>(portion: &K, zone: u8, was: u32) -> Line
@@ -26,7 +26,7 @@ fn line<K: Kind>(portion: &K, zone: u8, was: u32) -> Line
 }
 
 // The line of the open portion at a place, which had `was` left.
-fn line_at<K: Kind>(store: &Shelf<K>, place: usize, zone: u8, was: u32) -> Line
+fn line_at<K: Kind>(store: &Store<K>, place: usize, zone: u8, was: u32) -> Line
     requires sound { Sound store.now }
     requires there { place < length (ledger_of K.Kind store.now).portions }
     ensures { told (line_of zone was) (slice_get (ledger_of K.Kind store.now).portions place) ≡ Some result }
@@ -44,7 +44,7 @@ fn line_at<K: Kind>(store: &Shelf<K>, place: usize, zone: u8, was: u32) -> Line
 
 // Writes a line for each open portion, the first at `from`, and returns the place after the last.
 pub(crate) fn write_lines<K: Kind>(
-    store: &Shelf<K>,
+    store: &Store<K>,
     zone: u8,
     before: &Amounts,
     lines: &mut [Line],

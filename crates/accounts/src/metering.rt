@@ -1,11 +1,11 @@
 ghost use Rattle.std.specs.Prelude.{◌≡◌, ◌≤◌, true};
 ghost use Rattle.settlement.specs.declared.states.MonthState.TheVariants.{Waiting};
-ghost use Rattle.shelf.specs.Sound.{Sound};
+ghost use Rattle.store.specs.Sound.{Sound};
 ghost use Rattle.accounts.specs.Bounds.{Few, Together, Free, Ready};
 
 use portions::energy::Energy;
 use settlement::{MonthState, Period, Zones};
-use shelf::Shelf;
+use store::Store;
 
 mod calls;
 mod covering;
@@ -16,7 +16,7 @@ mod tells;
 // in its month the account is.
 #[derive(Drop)]
 pub struct Metering<'a> {
-    stores: Zones<Shelf<'a, Energy>>,
+    stores: Zones<Store<'a, Energy>>,
     pending: Zones<u32>,
     coefficient: u32,
     period: Period,

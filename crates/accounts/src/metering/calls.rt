@@ -6,7 +6,7 @@ ghost use Rattle.settlement.specs.Steps.{open_answer, open_after, enter_answer, 
 ghost use Rattle.settlement.specs.History.{enter_event, settle_event, turn_event};
 ghost use Rattle.settlement.specs.Promises.{Keeps, OpenKeeps};
 ghost use Rattle.settlement.specs.Metering.{metering, closed, open_refusal, coefficient_for, or_monthly, split_by_zone};
-ghost use Rattle.shelf.specs.Held.{lent};
+ghost use Rattle.store.specs.Held.{lent};
 ghost use Rattle.accounts.specs.Means.{fewest};
 ghost use Rattle.accounts.specs.Bounds.{Within};
 ghost use Rattle.accounts.specs.Metered.{metered, meter_opening};
@@ -21,7 +21,7 @@ use hours::MonthSums;
 use portions::rules::Rule;
 use portions::{Kind, Slot};
 use settlement::{Line, MonthState, Period, Returned, Settlement, Zones};
-use shelf::Shelf;
+use store::Store;
 
 // The fewest lines that a settlement asks for: in each zone a month's portion and those of the twelve months before it.
 const FEWEST_LINES: usize = 39;
@@ -86,9 +86,9 @@ impl<'a> Metering<'a> {
     {
         Metering {
             stores: Zones {
-                one: Shelf::over(one),
-                two: Shelf::over(two),
-                three: Shelf::over(three),
+                one: Store::over(one),
+                two: Store::over(two),
+                three: Store::over(three),
             },
             pending: NOTHING,
             coefficient: 8,

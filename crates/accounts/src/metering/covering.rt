@@ -2,7 +2,7 @@
 ghost use Rattle.std.specs.Prelude.{◌≡◌, ◌-◌, ◌≤◌, true, ◌++◌};
 ghost use Rattle.portions.specs.Sums.{sum};
 ghost use Rattle.ledger.specs.Steps.{takings, drawing};
-ghost use Rattle.shelf.specs.Sound.{Sound};
+ghost use Rattle.store.specs.Sound.{Sound};
 ghost use Rattle.settlement.specs.Metering.{wanted, covered, cover, covers, own_stores, other_stores};
 ghost use Rattle.settlement.specs.Zones.{of, put, each};
 ghost use Rattle.accounts.specs.Means.{energies, course};
@@ -13,7 +13,7 @@ use crate::inside::draw_store;
 use portions::energy::Energy;
 use portions::rules::Rule;
 use settlement::{Zone, Zones};
-use shelf::Shelf;
+use store::Store;
 
 // Wanted of a store to cover a rest: 10 × rest / c, rounded up.
 fn wanted_for(c: u32, rest: u32) -> u64
@@ -37,7 +37,7 @@ fn uncovered(c: u32, rest: u32, used: u32) -> u32
 }
 
 // Covers a rest from a store, and returns what is not covered.
-fn cover_rest<R: Rule>(store: &mut Shelf<Energy>, rule: &R, c: u32, rest: u32) -> u32
+fn cover_rest<R: Rule>(store: &mut Store<Energy>, rule: &R, c: u32, rest: u32) -> u32
     requires sound { Sound store.old }
     requires low { 7 ≤ c }
     requires high { c ≤ 8 }
@@ -78,7 +78,7 @@ fn set(amounts: &mut Zones<u32>, zone: Zone, amount: u32)
 
 // Covers a rest from the store of a zone, and returns what is not covered.
 fn rest_from<R: Rule>(
-    stores: &mut Zones<Shelf<Energy>>,
+    stores: &mut Zones<Store<Energy>>,
     rule: &R,
     c: u32,
     from: Zone,
@@ -104,7 +104,7 @@ fn rest_from<R: Rule>(
 
 // Covers a zone's rest from the store of a zone.
 fn cover_from<R: Rule>(
-    stores: &mut Zones<Shelf<Energy>>,
+    stores: &mut Zones<Store<Energy>>,
     rule: &R,
     c: u32,
     zone: Zone,
@@ -129,7 +129,7 @@ fn cover_from<R: Rule>(
 
 // Covers each zone from its own store, and then each from the stores of the others.
 pub(crate) fn cover_all<R: Rule>(
-    stores: &mut Zones<Shelf<Energy>>,
+    stores: &mut Zones<Store<Energy>>,
     rule: &R,
     c: u32,
     rests: &mut Zones<u32>,

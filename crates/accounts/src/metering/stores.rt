@@ -16,10 +16,10 @@ use crate::lines::write_lines;
 use portions::amounts::Amounts;
 use portions::energy::Energy;
 use settlement::{Line, Zones};
-use shelf::Shelf;
+use store::Store;
 
 // Opens the three stores, which have the slots, for a month that can be.
-pub(crate) fn open_stores(stores: &mut Zones<Shelf<Energy>>, month: u16)
+pub(crate) fn open_stores(stores: &mut Zones<Store<Energy>>, month: u16)
     requires sound { Kept stores.old }
     requires roomy { 12 < fewest stores.old }
     requires low { 47 ≤ month }
@@ -34,7 +34,7 @@ pub(crate) fn open_stores(stores: &mut Zones<Shelf<Energy>>, month: u16)
 }
 
 // Enters an amount into each store.
-pub(crate) fn enter_stores(stores: &mut Zones<Shelf<Energy>>, amounts: Zones<u32>)
+pub(crate) fn enter_stores(stores: &mut Zones<Store<Energy>>, amounts: Zones<u32>)
     requires sound { Kept stores.old }
     requires ready { Ready stores.old }
     requires free { Free stores.old }
@@ -49,7 +49,7 @@ pub(crate) fn enter_stores(stores: &mut Zones<Shelf<Energy>>, amounts: Zones<u32
 }
 
 // Turns the three stores: their refunds and losses, summed.
-pub(crate) fn turn_stores(stores: &mut Zones<Shelf<Energy>>) -> (u64, u64)
+pub(crate) fn turn_stores(stores: &mut Zones<Store<Energy>>) -> (u64, u64)
     requires sound { Kept stores.old }
     requires ready { Ready stores.old }
     requires together { Together stores.old }
@@ -68,7 +68,7 @@ pub(crate) fn turn_stores(stores: &mut Zones<Shelf<Energy>>) -> (u64, u64)
 }
 
 // What is left in each open portion of each store.
-pub(crate) fn lefts_of(stores: &Zones<Shelf<Energy>>) -> Zones<Amounts>
+pub(crate) fn lefts_of(stores: &Zones<Store<Energy>>) -> Zones<Amounts>
     requires { Kept stores.now }
     ensures { each listed result ≡ each lefts (each energies stores.now) }
 {
@@ -81,7 +81,7 @@ pub(crate) fn lefts_of(stores: &Zones<Shelf<Energy>>) -> Zones<Amounts>
 
 // Writes a line for each open portion, zone by zone, over the first of the caller's lines: how many there are.
 pub(crate) fn write_zones(
-    stores: &Zones<Shelf<Energy>>,
+    stores: &Zones<Store<Energy>>,
     before: &Zones<Amounts>,
     lines: &mut [Line],
 ) -> usize

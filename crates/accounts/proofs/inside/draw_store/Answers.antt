@@ -3,8 +3,8 @@ use Rattle.portions.specs.Sums.{sum}
 use Rattle.ledger.specs.Ledger.{Ledger}
 use Rattle.ledger.specs.Calls.{answers, becomes}
 use Rattle.ledger.specs.Steps.{takings, drawing}
-use Rattle.shelf.specs.Reading.{ledger_of}
-use Rattle.shelf.proofs.Lawful.{lawful_rule}
+use Rattle.store.specs.Reading.{ledger_of}
+use Rattle.store.proofs.Lawful.{lawful_rule}
 use Rattle.settlement.proofs.Cover.{draw_sum, length_taking}
 use Rattle.accounts.proofs.Facts.{in_use_is}
 use Rattle.accounts.proofs.Allowed.{held_in, draw_allowed}

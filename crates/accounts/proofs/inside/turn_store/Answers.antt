@@ -1,7 +1,7 @@
 use Rattle.std.proofs.Common.{ap, ◌∙◌, arith}
 use Rattle.ledger.specs.Calls.{answers, becomes}
 use Rattle.ledger.specs.Steps.{turning, refunds, losses}
-use Rattle.shelf.specs.Reading.{kind_of, ledger_of}
+use Rattle.store.specs.Reading.{kind_of, ledger_of}
 use Rattle.accounts.proofs.Facts.{turned_free, turned_small}
 use Rattle.accounts.proofs.Allowed.{held_in, turn_allowed}
 use Rattle.accounts.proofs.inside.turn_store.Goals as goal

@@ -1,5 +1,5 @@
 use Rattle.std.proofs.Common.{sym, arith}
-use Rattle.shelf.specs.Reading.{ledger_of}
+use Rattle.store.specs.Reading.{ledger_of}
 use Rattle.accounts.proofs.Written.{none_past}
 use Rattle.accounts.proofs.lines.line_at.Goals as goal
 

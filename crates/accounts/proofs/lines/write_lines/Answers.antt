@@ -2,7 +2,7 @@ use Rattle.std.proofs.Common.{◌≡◌, ◌<◌, length, Some, subst, arith}
 use Rattle.std.specs.List.{slice_get}
 use Rattle.std.proofs.lemmas.List.Edits.{paste_none, paste_more}
 use Rattle.portions.specs.Listed.{listed}
-use Rattle.shelf.specs.Reading.{ledger_of, told}
+use Rattle.store.specs.Reading.{ledger_of, told}
 use Rattle.settlement.specs.declared.answers.Line.{Line}
 use Rattle.settlement.specs.Lines.{line_of, lines_of}
 use Rattle.settlement.proofs.Lines.{length_lines_of}

@@ -1,7 +1,7 @@
 use Rattle.std.proofs.Common.{ℕ, length, ap, ◌∙◌, arith}
 use Rattle.portions.specs.Listed.{listed}
 use Rattle.ledger.specs.Ledger.{Ledger}
-use Rattle.shelf.proofs.Lawful.{lawful_rule}
+use Rattle.store.proofs.Lawful.{lawful_rule}
 use Rattle.settlement.specs.Billing.{billing}
 use Rattle.settlement.proofs.Billed.{billing_keeps}
 use Rattle.accounts.specs.Means.{deposit_kind, deposits}

@@ -1,6 +1,6 @@
 use Rattle.std.proofs.Common.{◌≡◌, ℕ, arith}
 use Rattle.portions.specs.Listed.{listed}
-use Rattle.shelf.proofs.Lawful.{lawful_rule}
+use Rattle.store.proofs.Lawful.{lawful_rule}
 use Rattle.settlement.specs.declared.states.MonthState.TheVariants.{Settled}
 use Rattle.settlement.specs.declared.states.Zone.TheVariants.{First, Second, Third}
 use Rattle.settlement.specs.Zones.{each}
