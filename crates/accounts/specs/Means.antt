@@ -1,8 +1,7 @@
 -- What the stores inside an account mean.
 use Rattle.std.specs.Prelude.{ℕ, min}
 use Rattle.portions.specs.declared.Kind.{Ghosts}
-use Rattle.portions.specs.declared.energy.Energy.{Energy}
-use Rattle.portions.specs.declared.deposit.Deposit.{Deposit}
+use Rattle.portions.specs.declared.terms.Termed.{Termed}
 use Rattle.ledger.specs.Ledger.{Ledger}
 use Rattle.store.specs.declared.Store.{Store}
 use Rattle.store.specs.Held.{room}
@@ -10,30 +9,30 @@ use Rattle.store.specs.Reading.{ledger_of}
 use Rattle.settlement.specs.declared.zones.Zones.{Zones}
 
 -- the kind of energy, as the code has it
-abbrev pub energy_kind : Ghosts Energy (Unit {0})
+abbrev pub energy_kind : Ghosts (Termed (Unit {0})) (Unit {0})
 energy_kind = record {
   life = 12;
-  means = λ p. record { month = p.stock.month; entered = p.stock.entered; left = p.stock.left; terms = tt };
+  means = λ p. record { month = p.stock.month; entered = p.stock.entered; left = p.stock.left; terms = p.terms };
   term = λ s. tt;
   refund = λ p. 0;
 }
 
 -- the kind of deposits, as the code has it
-abbrev pub deposit_kind : Ghosts Deposit ℕ
+abbrev pub deposit_kind : Ghosts (Termed ℕ) ℕ
 deposit_kind = record {
   life = 12;
-  means = λ p. record { month = p.stock.month; entered = p.stock.entered; left = p.stock.left; terms = p.«cap» };
+  means = λ p. record { month = p.stock.month; entered = p.stock.entered; left = p.stock.left; terms = p.terms };
   term = λ s. s.terms;
   refund = λ p. min p.terms p.left;
 }
 
 -- a store of energy
 abbrev pub EnergyStore : Type 0
-EnergyStore = Store Energy (Unit {0}) energy_kind
+EnergyStore = Store (Termed (Unit {0})) (Unit {0}) energy_kind
 
 -- a store of deposits
 abbrev pub DepositStore : Type 0
-DepositStore = Store Deposit ℕ deposit_kind
+DepositStore = Store (Termed ℕ) ℕ deposit_kind
 
 -- the ledger of a store of energy
 abbrev pub energies : EnergyStore → Ledger (Unit {0})

@@ -17,6 +17,7 @@ pub mod oldest_first;
 pub mod proportional;
 pub mod rules;
 mod stock;
+pub mod terms;
 
 // The largest amount of a portion.
 pub const LARGEST_AMOUNT: u32 = 100_000_000;
