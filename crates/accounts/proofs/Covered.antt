@@ -16,9 +16,6 @@ use Rattle.settlement.proofs.Lines.{length_lines_of}
 use Rattle.accounts.specs.Bounds.{Known}
 
 module _ (rule : Rule) (a : MeterAccount) (end : Course) (is : end ≡ settled_course rule a) where
-  pub same_months : (z : Zone) → (of z end.stores).month ≡ (of z a.stores).month
-  same_months z = ap (λ (x : Course). (of z x.stores).month) is ∙ covers_month rule a.coefficient (own_stores ++ other_stores) (outset a) z
-
   known_in : (z : Zone) → length (of z end.stores).portions ≤ length (lefts (of z a.stores))
   known_in z =
       let same = ap (λ (x : Course). length (of z x.stores).portions) is ∙ covers_length rule a.coefficient (own_stores ++ other_stores) (outset a) z in
@@ -52,7 +49,7 @@ in_a_row d s t u w1 w2 w3 f1 r1 f2 r2 i j I J W1 F1 R1 W2 F2 R2 W3 =
     let then' : r2 ≡ drop (length t) r1 = R2 ∙ ap (drop j) W2 ∙ drop_at t (drop (length t) r1) j J in
     let many : length s + length t + length u ≡ length (s ++ (t ++ u)) = omega (arith, length-append s (t ++ u), length-append t u) in
     let rest : drop (length u) r2 ≡ drop (length (s ++ (t ++ u))) d =
-        ap (drop (length u)) (then' ∙ ap (drop (length t)) after ∙ drop-drop (length t) (length s) d) ∙ drop-drop (length u) (length s + length t) d ∙ ap (λ k. drop k d) many in
+    ap (drop (length u)) (then' ∙ ap (drop (length t)) after ∙ drop-drop (length t) (length s) d) ∙ drop-drop (length u) (length s + length t) d ∙ ap (λ k. drop k d) many in
     let flat = append_assoc s (t ++ u) (drop (length (s ++ (t ++ u))) d) ∙ ap (λ x. s ++ x) (append_assoc t u (drop (length (s ++ (t ++ u))) d)) in
     ap (λ x. x ++ (f2 ++ w3)) first ∙ ap (λ x. s ++ (x ++ w3)) second ∙ ap (λ x. s ++ (t ++ x)) (W3 ∙ ap (λ x. u ++ x) rest) ∙ sym flat
 

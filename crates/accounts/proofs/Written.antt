@@ -5,7 +5,7 @@ use Rattle.std.specs.List.{slice_get}
 use Rattle.std.proofs.lemmas.List.{length-take-le, drop_all, append-nil}
 use Rattle.std.proofs.lemmas.List.Edits.{paste_more, paste_all}
 use Rattle.portions.specs.Portions.{Portion}
-use Rattle.shelf.specs.Reading.{told}
+use Rattle.store.specs.Reading.{told}
 use Rattle.settlement.specs.declared.answers.Line.{Line}
 use Rattle.hours.specs.declared.zones.Zone.{Zone}
 use Rattle.settlement.specs.Lines.{line_of, lines_of}

@@ -7,17 +7,16 @@ ghost use Rattle.ledger.specs.Ledger.{opening};
 ghost use Rattle.ledger.specs.Steps.{entering, takings, drawing, turning, refunds, losses};
 ghost use Rattle.settlement.specs.Answers.{answers};
 ghost use Rattle.settlement.specs.Standing.{asks};
-ghost use Rattle.shelf.specs.Held.{room};
-ghost use Rattle.shelf.specs.Reading.{kind_of, ledger_of};
-ghost use Rattle.shelf.specs.Slots.{Accounted};
-ghost use Rattle.shelf.specs.Sound.{Sound};
+ghost use Rattle.store.specs.Held.{room};
+ghost use Rattle.store.specs.Reading.{kind_of, ledger_of};
+ghost use Rattle.store.specs.Slots.{Accounted};
 ghost use Rattle.accounts.specs.Bounds.{FreeIn};
 ghost use Rattle.accounts.specs.Slots.{SameSlots, Drawn};
 
 use faults::{AccountFault, StoreFault};
 use portions::rules::Rule;
 use portions::{FIRST_MONTH, Kind, LAST_MONTH};
-use shelf::Shelf;
+use store::Store;
 
 // The most portions that a store of an account has open: a month's and those of the twelve months before it. A store needs
 // so many slots, and a settlement so many lines for each store.
@@ -44,55 +43,47 @@ pub(crate) fn month_in_range(month: u16) -> Result<(), AccountFault>
 }
 
 // Opens a store that has the slots, for a month that can be.
-pub(crate) fn open_store<K: Kind>(store: &mut Shelf<K>, month: u16)
-    requires sound { Sound store.old }
+pub(crate) fn open_store<K: Kind>(store: &mut Store<K>, month: u16)
     requires roomy { K.Kind.life < room store.old }
     requires low { 47 ≤ month }
     requires high { month ≤ 1199 }
     ensures state { ledger_of K.Kind store.new ≡ opening month }
     ensures slots { SameSlots store.old store.new }
-    ensures sound { Sound store.new }
 {
     let _ = store.open(month);
 }
 
 // Enters an amount that is not too large, in a month that has no portion yet.
-pub(crate) fn enter_store<K: Kind>(store: &mut Shelf<K>, amount: u32, terms: K::Terms)
-    requires sound { Sound store.old }
+pub(crate) fn enter_store<K: Kind>(store: &mut Store<K>, amount: u32, terms: K::Terms)
     requires ready { (ledger_of K.Kind store.old).opened ≡ true }
     requires small { amount ≤ 100000000 }
     requires free { FreeIn (ledger_of K.Kind store.old) }
     ensures state { ledger_of K.Kind store.new ≡ entering amount terms (ledger_of K.Kind store.old) }
     ensures slots { Accounted true store.old store.new }
-    ensures sound { Sound store.new }
 {
     let _ = store.enter(amount, terms);
 }
 
 // Draws an amount that is not too large: the sum taken.
-pub(crate) fn draw_store<K: Kind, R: Rule>(store: &mut Shelf<K>, rule: &R, wanted: u32) -> u32
-    requires sound { Sound store.old }
+pub(crate) fn draw_store<K: Kind, R: Rule>(store: &mut Store<K>, rule: &R, wanted: u32) -> u32
     requires ready { (ledger_of K.Kind store.old).opened ≡ true }
     requires small { wanted ≤ 1000000000 }
     ensures used { result ≡ sum (takings (R.Rule.gives rule.now) wanted (ledger_of K.Kind store.old)) }
     ensures most { result ≤ wanted }
     ensures state { ledger_of K.Kind store.new ≡ drawing (takings (R.Rule.gives rule.now) wanted (ledger_of K.Kind store.old)) (ledger_of K.Kind store.old) }
     ensures slots { Drawn store.old store.new }
-    ensures sound { Sound store.new }
 {
     store.draw(rule, wanted).unwrap() as u32
 }
 
 // Turns a store that is not in its last month: its refunds and losses.
-pub(crate) fn turn_store<K: Kind>(store: &mut Shelf<K>) -> (u64, u64)
-    requires sound { Sound store.old }
+pub(crate) fn turn_store<K: Kind>(store: &mut Store<K>) -> (u64, u64)
     requires ready { (ledger_of K.Kind store.old).opened ≡ true }
     requires early { (ledger_of K.Kind store.old).month < 1199 }
     ensures refunded { result.0 ≡ refunds (kind_of K.Kind) (ledger_of K.Kind store.old) }
     ensures lost { result.1 ≡ losses (kind_of K.Kind) (ledger_of K.Kind store.old) }
     ensures state { ledger_of K.Kind store.new ≡ turning (kind_of K.Kind) (ledger_of K.Kind store.old) }
     ensures slots { Accounted true store.old store.new }
-    ensures sound { Sound store.new }
     ensures free { FreeIn (ledger_of K.Kind store.new) }
     ensures small { result.0 + result.1 ≤ 120000000000 }
 {

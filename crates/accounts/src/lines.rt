@@ -3,13 +3,12 @@ ghost use Rattle.std.specs.Prelude.{◌≡◌, ◌<◌, ◌≤◌, length, Some}
 ghost use Rattle.std.specs.List.{slice_get};
 ghost use Rattle.portions.specs.Listed.{listed};
 ghost use Rattle.settlement.specs.Lines.{line_of, lines_of, written};
-ghost use Rattle.shelf.specs.Reading.{ledger_of, told};
-ghost use Rattle.shelf.specs.Sound.{Sound};
+ghost use Rattle.store.specs.Reading.{ledger_of, told};
 
 use portions::Kind;
 use portions::amounts::Amounts;
 use settlement::{Line, Zone};
-use shelf::Shelf;
+use store::Store;
 
 // The line of a portion that had `was` left.
 fn line<K: Kind>(portion: &K, zone: Option<Zone>, was: u32) -> Line
@@ -25,8 +24,7 @@ fn line<K: Kind>(portion: &K, zone: Option<Zone>, was: u32) -> Line
 }
 
 // The line of the open portion at a place, which had `was` left.
-fn line_at<K: Kind>(store: &Shelf<K>, place: usize, zone: Option<Zone>, was: u32) -> Line
-    requires sound { Sound store.now }
+fn line_at<K: Kind>(store: &Store<K>, place: usize, zone: Option<Zone>, was: u32) -> Line
     requires there { place < length (ledger_of K.Kind store.now).portions }
     ensures { told (line_of zone was) (slice_get (ledger_of K.Kind store.now).portions place) ≡ Some result }
 {
@@ -35,12 +33,11 @@ fn line_at<K: Kind>(store: &Shelf<K>, place: usize, zone: Option<Zone>, was: u32
 
 // Writes a line for each open portion over the first of the lines: how many there are.
 pub(crate) fn write_lines<K: Kind>(
-    store: &Shelf<K>,
+    store: &Store<K>,
     zone: Option<Zone>,
     before: &Amounts,
     lines: &mut [Line],
 ) -> usize
-    requires sound { Sound store.now }
     requires known { length (ledger_of K.Kind store.now).portions ≤ length (listed before.now) }
     requires room { length (ledger_of K.Kind store.now).portions ≤ length lines.old }
     ensures count { result ≡ length (ledger_of K.Kind store.now).portions }

@@ -1,12 +1,11 @@
 ghost use Rattle.std.specs.Prelude.{◌≡◌, ◌≤◌, true};
 ghost use Rattle.settlement.specs.declared.states.MonthState.TheVariants.{Waiting};
-ghost use Rattle.shelf.specs.Sound.{Sound};
 ghost use Rattle.accounts.specs.Bounds.{Few, Free, Ready, Together, Within};
 
 use coefficient::Coefficient;
 use portions::energy::Energy;
 use settlement::{MonthState, Period, Zones};
-use shelf::Shelf;
+use store::Store;
 
 mod calls;
 mod coefficient;
@@ -17,11 +16,8 @@ mod tells;
 // The meters of an account: a store for each zone, and the import that is pending in each.
 #[derive(Drop)]
 struct Meters<'a> {
-    stores: Zones<Shelf<'a, Energy>>,
+    stores: Zones<Store<'a, Energy>>,
     pending: Zones<u32>,
-    ghost sound_one: { Sound stores.one },
-    ghost sound_two: { Sound stores.two },
-    ghost sound_three: { Sound stores.three },
     ghost together: { Together stores },
     ghost within: { Within 447000000 pending },
 }

@@ -4,8 +4,8 @@ ghost use Rattle.settlement.specs.Steps.{open_answer, open_after, enter_answer, 
 ghost use Rattle.settlement.specs.History.{enter_event, settle_event, turn_event};
 ghost use Rattle.settlement.specs.Promises.{Keeps, OpenKeeps};
 ghost use Rattle.settlement.specs.Billing.{billing, closed, open_refusal};
-ghost use Rattle.shelf.specs.Held.{lent, room};
-ghost use Rattle.shelf.specs.Slots.{Accounted};
+ghost use Rattle.store.specs.Held.{lent, room};
+ghost use Rattle.store.specs.Slots.{Accounted};
 ghost use Rattle.accounts.specs.Billed.{billed, bill_opening};
 ghost use Rattle.accounts.specs.Slots.{SameSlots};
 
@@ -20,7 +20,7 @@ use hours::MonthSums;
 use portions::rules::Rule;
 use portions::{Kind, Slot};
 use settlement::{Line, MonthState, Payment, Returned};
-use shelf::Shelf;
+use store::Store;
 
 impl<'a> Billing<'a> {
     // An account over slots, not open yet.
@@ -30,7 +30,7 @@ impl<'a> Billing<'a> {
         ensures lender { result.store.rows.slots.ghost_name ≡ slots.entry.ghost_name }
     {
         Billing {
-            store: Shelf::over(slots),
+            store: Store::over(slots),
             bill: 0,
             percentage: 0,
             state: MonthState::Waiting,

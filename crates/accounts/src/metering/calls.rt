@@ -5,7 +5,7 @@ ghost use Rattle.settlement.specs.Steps.{open_answer, open_after, enter_answer, 
 ghost use Rattle.settlement.specs.History.{enter_event, settle_event, turn_event};
 ghost use Rattle.settlement.specs.Promises.{Keeps, OpenKeeps};
 ghost use Rattle.settlement.specs.Metering.{metering, closed, open_refusal, or_monthly};
-ghost use Rattle.shelf.specs.Held.{lent};
+ghost use Rattle.store.specs.Held.{lent};
 ghost use Rattle.accounts.specs.Means.{fewest};
 ghost use Rattle.accounts.specs.Metered.{metered, meter_opening};
 ghost use Rattle.accounts.specs.Slots.{EachSame, EachAccounted};
@@ -18,7 +18,7 @@ use hours::MonthSums;
 use portions::rules::Rule;
 use portions::{Kind, Slot};
 use settlement::{Line, MonthState, Period, Returned, Settlement, Zones};
-use shelf::Shelf;
+use store::Store;
 
 // The fewest lines that a settlement asks for: one for each portion that can be open.
 const FEWEST_LINES: usize = 3 * MOST_PORTIONS;
@@ -32,9 +32,9 @@ impl<'a> Metering<'a> {
         ensures third { (lent result.meters.stores.three ≡ three.old) × (result.meters.stores.three.rows.slots.ghost_name ≡ three.entry.ghost_name) }
     {
         let stores = Zones {
-            one: Shelf::over(one),
-            two: Shelf::over(two),
-            three: Shelf::over(three),
+            one: Store::over(one),
+            two: Store::over(two),
+            three: Store::over(three),
         };
         Metering {
             meters: Meters {

@@ -70,16 +70,11 @@ impl<'a> Meters<'a> {
     pub(super) fn lefts(&self) -> Zones<Amounts>
         ensures { each listed result ≡ each lefts (each energies self.now.stores) }
     {
-        Zones {
-            one: self.stores.one.lefts(),
-            two: self.stores.two.lefts(),
-            three: self.stores.three.lefts(),
-        }
+        self.stores.map(|store| store.lefts())
     }
 
     // Writes a line for each open portion, zone by zone, over the first of the caller's lines: how many there are.
     pub(super) fn write(&self, before: &Zones<Amounts>, lines: &mut [Line]) -> usize
-        requires ready { Ready self.now.stores }
         requires known { Known (each listed before.now) (each energies self.now.stores) }
         requires room { 39 ≤ length lines.old }
         ensures count { result ≡ length (all_lines (each listed before.now) (each energies self.now.stores)) }

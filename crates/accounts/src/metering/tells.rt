@@ -2,7 +2,7 @@ ghost use Rattle.std.specs.Prelude.{◌≡◌, length};
 ghost use Rattle.std.specs.List.{slice_get};
 ghost use Rattle.settlement.specs.Zones.{of};
 ghost use Rattle.settlement.specs.Metering.{metering};
-ghost use Rattle.shelf.specs.Reading.{ledger_totals, told};
+ghost use Rattle.store.specs.Reading.{ledger_totals, told};
 ghost use Rattle.accounts.specs.Means.{energy_kind};
 ghost use Rattle.accounts.specs.Metered.{metered};
 
@@ -10,7 +10,7 @@ use crate::metering::Metering;
 use portions::Kind;
 use portions::energy::Energy;
 use settlement::{Standing, Zone, Zones};
-use shelf::Totals;
+use store::Totals;
 
 impl<'a> Metering<'a> {
     // Where the account stands: whether it is open, its month and that month's state, and whether a period ends with it.

@@ -2,8 +2,8 @@ use Rattle.std.proofs.Common.{length, Ok, true, is_ok, ap, ◌∙◌, subst, ari
 use Rattle.ledger.specs.Ledger.{Ledger}
 use Rattle.ledger.specs.Calls.{becomes}
 use Rattle.ledger.specs.Steps.{takings, drawing}
-use Rattle.shelf.specs.Reading.{ledger_of}
-use Rattle.shelf.specs.Slots.{Accounted}
+use Rattle.store.specs.Reading.{ledger_of}
+use Rattle.store.specs.Slots.{Accounted}
 use Rattle.settlement.proofs.Cover.{length_taking}
 use Rattle.accounts.proofs.Facts.{in_use_is}
 use Rattle.accounts.proofs.Allowed.{draw_allowed}
@@ -21,5 +21,5 @@ returns-clause-slots g c =
     let long = ap (λ (x : Ledger _). length x.portions) state ∙ length_taking xs l.portions in
     record {
       accounted = subst (λ b. Accounted b s s') (ap is_ok c.unwrap.ensures) e.slots;
-      same_use = omega (arith, long, in_use_is k s c.requires.sound, in_use_is k s' e.sound);
+      same_use = omega (arith, long, in_use_is k s, in_use_is k s');
     }

@@ -1,5 +1,5 @@
 use Rattle.std.proofs.Common.{◌≡◌, ℕ, sym, arith}
-use Rattle.shelf.specs.Reading.{ledger_of}
+use Rattle.store.specs.Reading.{ledger_of}
 use Rattle.accounts.proofs.Written.{portion_there}
 use Rattle.accounts.proofs.lines.line_at.Goals as goal
 

@@ -3,7 +3,7 @@ use Rattle.std.specs.List.{slice_get}
 use Rattle.std.proofs.lemmas.List.{length-take-le}
 use Rattle.std.proofs.lemmas.List.Edits.{paste_none}
 use Rattle.portions.specs.Listed.{listed}
-use Rattle.shelf.specs.Reading.{ledger_of, told}
+use Rattle.store.specs.Reading.{ledger_of, told}
 use Rattle.settlement.specs.Lines.{line_of, lines_of}
 use Rattle.settlement.proofs.Lines.{length_lines_of}
 use Rattle.accounts.proofs.Written.{line_there, all_written, next_written}

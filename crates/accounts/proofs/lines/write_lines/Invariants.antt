@@ -1,7 +1,7 @@
 use Rattle.std.proofs.Common.{◌≡◌}
 use lib.Seq.{paste}
 use Rattle.portions.specs.Listed.{listed}
-use Rattle.shelf.specs.Reading.{ledger_of}
+use Rattle.store.specs.Reading.{ledger_of}
 use Rattle.settlement.specs.Lines.{lines_of}
 use Rattle.accounts.proofs.lines.write_lines.Given as goal
 

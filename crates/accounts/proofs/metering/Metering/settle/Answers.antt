@@ -1,6 +1,6 @@
 use Rattle.std.proofs.Common.{◌≡◌, ℕ, ◌-◌, rules, ap, arith}
 use Rattle.portions.specs.Listed.{listed}
-use Rattle.shelf.proofs.Lawful.{lawful_rule}
+use Rattle.store.proofs.Lawful.{lawful_rule}
 use Rattle.settlement.specs.declared.states.MonthState.TheVariants.{Settled}
 use Rattle.settlement.specs.declared.zones.Zones.{Zones}
 use Rattle.settlement.specs.Zones.{all, each, each_two}

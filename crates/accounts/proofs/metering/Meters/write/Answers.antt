@@ -9,9 +9,9 @@ use Rattle.accounts.proofs.metering.Meters.write.Goals as goal
 pub write_lines-three-requires-clause-room : goal.write_lines-three-requires-clause-room
 write_lines-three-requires-clause-room c =
     let m = c.args.self.now in
-    let one = few_open energy_kind m.stores.one m.sound_one c.requires.ready.0 in
-    let two = few_open energy_kind m.stores.two m.sound_two c.requires.ready.1 in
-    let three = few_open energy_kind m.stores.three m.sound_three c.requires.ready.2 in
+    let one = few_open energy_kind m.stores.one in
+    let two = few_open energy_kind m.stores.two in
+    let three = few_open energy_kind m.stores.three in
     let first = c.write_lines-one in
     let second = c.write_lines-two in
     omega (arith, one, two, three, c.requires.room, first.ensures.count, second.ensures.count, first.auto.lines, second.auto.lines, c.split_at_mut-rest.ensures.back_len, c.split_at_mut-rest-2.ensures.back_len)
