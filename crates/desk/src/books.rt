@@ -7,20 +7,20 @@ ghost use Rattle.desk.specs.Means.{BookCame, BookHolds, nothing_said};
 
 use crate::book::OpenBook;
 use faults::ProgramFault;
+use hours::{Reading, Tariff};
 
 // Opens a book for a month, where none is open.
 pub(crate) fn open_book(
     book: &mut Option<OpenBook>,
     month: u16,
-    marks: [[u8; 24]; 2],
-    sale: [u32; 3],
+    tariff: Tariff,
 ) -> Result<(), ProgramFault>
-    ensures { (s : Option BookState) → BookHolds book.old s → BookCame (book_opened marks sale month s) (nothing_said result) book.new }
+    ensures { (s : Option BookState) → BookHolds book.old s → BookCame (book_opened tariff.marks tariff.sale month s) (nothing_said result) book.new }
 {
     if book.is_some() {
         return Err(ProgramFault::OutOfPlace);
     }
-    let open = OpenBook::open(month, marks, sale)?;
+    let open = OpenBook::open(month, tariff)?;
     *book = Some(open);
     Ok(())
 }
@@ -53,14 +53,13 @@ pub(crate) fn set_hour_prices(
 // Reads the next hour into the open book.
 pub(crate) fn read_hour(
     book: &mut Option<OpenBook>,
-    import: u32,
-    export: u32,
+    reading: Reading,
 ) -> Result<(), ProgramFault>
-    ensures { (month : ℕ) (s : Option BookState) → BookHolds book.old s → BookCame (change (hour_refusal import export) (with_next_hour import export) month s) (nothing_said result) book.new }
+    ensures { (month : ℕ) (s : Option BookState) → BookHolds book.old s → BookCame (change (hour_refusal reading.import reading.export) (with_next_hour reading.import reading.export) month s) (nothing_said result) book.new }
 {
     let Some(open) = book else {
         return Err(ProgramFault::OutOfPlace);
     };
-    open.read(import, export)?;
+    open.read(reading)?;
     Ok(())
 }

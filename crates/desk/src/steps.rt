@@ -22,6 +22,7 @@ use crate::books::{open_book, read_hour, set_hour_prices, set_month_price};
 use accounts::{Billing, Metering};
 use answers::Answer;
 use faults::ProgramFault;
+use hours::{Reading, Tariff};
 use records::{Record, price_list};
 use settlement::Line;
 use std::alloc::Global;
@@ -66,13 +67,12 @@ impl Desk {
         &mut self,
         metering: &Metering<'_>,
         billing: &Billing<'_>,
-        marks: [[u8; 24]; 2],
-        sale: [u32; 3],
+        tariff: Tariff,
     ) -> Result<(), ProgramFault>
-        ensures { (s : State) → Means self.old (metered metering.now) (billed billing.now) s → Came (book_step (book_opened marks sale) s) (nothing_said result) (Means self.new (metered metering.now) (billed billing.now)) }
+        ensures { (s : State) → Means self.old (metered metering.now) (billed billing.now) s → Came (book_step (book_opened tariff.marks tariff.sale) s) (nothing_said result) (Means self.new (metered metering.now) (billed billing.now)) }
     {
         let month = month_of(self.opened, metering, billing)?;
-        open_book(&mut self.book, month, marks, sale)
+        open_book(&mut self.book, month, tariff)
     }
 
     // Takes a month price.
@@ -92,11 +92,11 @@ impl Desk {
     }
 
     // Takes a reading.
-    fn read(&mut self, import: u32, export: u32) -> Result<(), ProgramFault>
-        ensures { (m : MeterAccount) (b : BillAccount) (s : State) → Means self.old m b s → Came (book_step (change (hour_refusal import export) (with_next_hour import export)) s) (nothing_said result) (Means self.new m b) }
+    fn read(&mut self, reading: Reading) -> Result<(), ProgramFault>
+        ensures { (m : MeterAccount) (b : BillAccount) (s : State) → Means self.old m b s → Came (book_step (change (hour_refusal reading.import reading.export) (with_next_hour reading.import reading.export)) s) (nothing_said result) (Means self.new m b) }
     {
         some_account(self.opened)?;
-        read_hour(&mut self.book, import, export)
+        read_hour(&mut self.book, reading)
     }
 
     // Finishes the open book and enters its sums; the book is gone, also where the account refuses them.
@@ -179,12 +179,12 @@ impl Desk {
             Record::OpenBilling { month, percentage } => {
                 told(open_billing(&mut self.opened, billing, month, percentage))
             }
-            Record::OpenBook { marks, sale } => told(self.open_book(
-                metering, billing, marks, sale,
-            )),
+            Record::OpenBook { marks, sale } => {
+                told(self.open_book(metering, billing, Tariff { marks, sale }))
+            }
             Record::MonthPrice(price) => told(self.set_month_price(price)),
             Record::HourPrices(bytes) => self.take_prices(heap, bytes),
-            Record::Reading { import, export } => told(self.read(import, export)),
+            Record::Reading { import, export } => told(self.read(Reading { import, export })),
             Record::Finish => told(self.finish(metering, billing)),
             Record::Settle => answered(settle(self.opened, metering, billing, lines)),
             Record::Turn => answered(turn(self.opened, metering, billing)),

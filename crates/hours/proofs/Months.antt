@@ -1,5 +1,7 @@
 -- A list of readings, read one after the other.
 use Rattle.std.proofs.Common.{◌≡◌, ℕ, suc, ◌+◌, ◌<◌, ◌≤◌, Bool, true, false, cond, List, [], ◌∷◌, ◌++◌, length, get_or, take, drop, ℤ, Some, None, Ok, Err, Option, Result, sym, refl, ap, ◌∙◌, subst, add-zero, le_of_lt, add-suc, suc-add, zero-add, add-one, arith, length-take, take_all, drop-cons, take-suc}
+use Rattle.std.specs.Result.{is_ok}
+use Rattle.std.proofs.lemmas.Bool.{false≢true}
 use Rattle.std.proofs.lemmas.List.{drop_all}
 use Rattle.faults.specs.declared.BookFault.{BookFault}
 use Rattle.hours.specs.Reading.{hours_of, joined, read_refusal, needs_price, unless, answer}
@@ -28,6 +30,16 @@ was_refused None k e = cc
 pub was_accepted : (f : Option BookFault) → Ok tt ≡ answer (unless f (tt {0})) → f ≡ None
 was_accepted (Some f) e = cc
 was_accepted None e = refl
+
+-- an answer whose refusal is told otherwise: an accepted reading is accepted still
+pub still_ok : {E F : Type 0} (r : Result (Unit {0}) E) (m : Result (Unit {0}) F) (u : Unit {0}) → is_ok m ≡ is_ok r → m ≡ Ok u → r ≡ Ok tt
+still_ok (Ok v) m u k e = refl
+still_ok (Err f) m u k e = absurd (false≢true (sym k ∙ ap is_ok e))
+
+-- a result is a value or an error
+pub by_result : {X E A : Type 0} (r : Result X E) → ((x : X) → r ≡ Ok x → A) → ((e : E) → r ≡ Err e → A) → A
+by_result (Ok x) a b = a x refl
+by_result (Err e) a b = b e refl
 
 -- the list from place i on begins with the reading there
 pub reading_then : (rs : List Reading) (i : ℕ) → i < length rs → drop i rs ≡ reading_at rs i ∷ drop (i + 1) rs
