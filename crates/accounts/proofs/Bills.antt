@@ -1,5 +1,5 @@
 -- A billing account after each accepted call, from its parts.
-use Rattle.std.proofs.Common.{◌≡◌, ℕ, ◌-◌, Bool, true, length, ap}
+use Rattle.std.proofs.Common.{◌≡◌, ℕ, ◌-◌, Bool, length, ap}
 use Rattle.hours.specs.declared.sums.MonthSums.{MonthSums}
 use Rattle.portions.specs.Sums.{sum}
 use Rattle.ledger.specs.Rules.{Rule}

@@ -1,6 +1,5 @@
-use Rattle.std.proofs.Common.{ℕ, length, ap, ◌∙◌, arith}
+use Rattle.std.proofs.Common.{length, ap, ◌∙◌, arith}
 use Rattle.portions.specs.Listed.{listed}
-use Rattle.ledger.specs.Ledger.{Ledger}
 use Rattle.store.proofs.Lawful.{lawful_rule}
 use Rattle.settlement.specs.Billing.{billing}
 use Rattle.settlement.proofs.Billed.{billing_keeps}

@@ -1,4 +1,4 @@
-use Rattle.std.proofs.Common.{◌≡◌, ℕ, Bool, refl, sym, ap, ◌∙◌, arith}
+use Rattle.std.proofs.Common.{◌≡◌, ℕ, refl, sym, ap, ◌∙◌, arith}
 use Rattle.ledger.specs.Ledger.{Ledger}
 use Rattle.settlement.specs.declared.states.MonthState.TheVariants.{Waiting, Entered}
 use Rattle.settlement.specs.declared.zones.Zones.{Zones}

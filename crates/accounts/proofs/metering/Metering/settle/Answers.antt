@@ -10,7 +10,6 @@ use Rattle.accounts.specs.Metered.{course, metered}
 use Rattle.accounts.proofs.Outcomes.{settle_refused, settle_met, settle_accepted, unchanged}
 use Rattle.accounts.proofs.DrawnSlots.{drawn_accounted}
 use Rattle.accounts.proofs.Meters.{settled_meter, answer_is, lines_is}
-use Rattle.accounts.proofs.Covered.{known_all}
 use Rattle.accounts.proofs.metering.Metering.settle.Goals as goal
 
 pub returns-in_err-next : goal.returns-in_err-next
