@@ -11,7 +11,7 @@ use Rattle.settlement.specs.declared.zones.Zones.{Zones}
 use Rattle.settlement.specs.Zones.{of, each}
 use Rattle.settlement.specs.Lines.{lines_of, written}
 use Rattle.settlement.specs.Metering.{MeterAccount, Course, cover, covers, own_stores, other_stores, outset, settled_course, all_lines}
-use Rattle.settlement.proofs.Cover.{covers_length, covers_month}
+use Rattle.settlement.proofs.Cover.{covers_length}
 use Rattle.settlement.proofs.Lines.{length_lines_of}
 use Rattle.accounts.specs.Bounds.{Known}
 

@@ -17,6 +17,13 @@ impl<'a, K: Kind> Store<'a, K> {
         self.rows.slots.len()
     }
 
+    // Whether an opening was accepted.
+    pub fn is_open(&self) -> bool
+        ensures { result ≡ (ledger_of K.Kind self.now).opened }
+    {
+        self.opened
+    }
+
     // The current month.
     pub fn month(&self) -> u16
         ensures { result ≡ (ledger_of K.Kind self.now).month }

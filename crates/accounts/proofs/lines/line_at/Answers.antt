@@ -1,4 +1,3 @@
-use Rattle.std.proofs.Common.{◌≡◌, ℕ, sym, arith}
 use Rattle.store.specs.Reading.{ledger_of}
 use Rattle.accounts.proofs.Written.{portion_there}
 use Rattle.accounts.proofs.lines.line_at.Goals as goal
