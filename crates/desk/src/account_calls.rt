@@ -2,7 +2,7 @@
 ghost use Rattle.std.specs.Prelude.{◌≡◌, [], length, drop};
 ghost use Rattle.settlement.specs.Metering.{MeterAccount};
 ghost use Rattle.settlement.specs.Billing.{BillAccount};
-ghost use Rattle.shelf.specs.Held.{room};
+ghost use Rattle.store.specs.Held.{room};
 ghost use Rattle.accounts.specs.Means.{fewest};
 ghost use Rattle.accounts.specs.Metered.{metered, meter_opening};
 ghost use Rattle.accounts.specs.Billed.{billed, bill_opening};

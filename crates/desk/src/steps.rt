@@ -5,7 +5,7 @@ ghost use Rattle.settlement.specs.Billing.{BillAccount};
 ghost use Rattle.desk.specs.Accounts.{own_month};
 ghost use Rattle.desk.specs.Books.{each_in_range, hour_refusal, price_in_range, price_refusal, with_next_hour, with_hourly, with_monthly};
 ghost use Rattle.desk.specs.Steps.{book_opened, book_step, change, finish_book};
-ghost use Rattle.shelf.specs.Held.{room};
+ghost use Rattle.store.specs.Held.{room};
 ghost use Rattle.accounts.specs.Means.{fewest};
 ghost use Rattle.accounts.specs.Metered.{metered};
 ghost use Rattle.accounts.specs.Billed.{billed};

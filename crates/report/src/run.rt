@@ -1,6 +1,6 @@
 // A run over a record file.
 ghost use Rattle.std.specs.Prelude.{◌≡◌, ◌<◌, [], ◌++◌, length, IfOk, Ok, Err, string_bytes, OnErr, OnOk, ◌≢◌};
-ghost use Rattle.shelf.specs.Held.{room};
+ghost use Rattle.store.specs.Held.{room};
 ghost use Rattle.accounts.specs.Means.{fewest};
 ghost use Rattle.accounts.specs.Metered.{metered};
 ghost use Rattle.accounts.specs.Billed.{billed};

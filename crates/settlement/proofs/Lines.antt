@@ -1,7 +1,7 @@
 -- Lemmas on the lines of a settlement.
 use Rattle.std.proofs.Common.{◌≡◌, ℕ, suc, ◌≤◌, List, [], ◌∷◌, length, Option, refl, ap, arith}
 use Rattle.portions.specs.Portions.{Portion}
-use Rattle.settlement.specs.declared.zones.Zone.{Zone}
+use Rattle.hours.specs.declared.zones.Zone.{Zone}
 use Rattle.settlement.specs.Lines.{lines_of}
 
 module _ {T : Type 0} (zone : Option Zone) where

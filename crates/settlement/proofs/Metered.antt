@@ -11,8 +11,8 @@ use Rattle.ledger.proofs.Store.{few_open}
 use Rattle.settlement.specs.declared.answers.Settlement.{Settlement}
 use Rattle.settlement.specs.declared.states.MonthState.{MonthState}
 use Rattle.settlement.specs.declared.states.MonthState.TheVariants.{Waiting, Entered, Settled}
-use Rattle.settlement.specs.declared.zones.Zone.{Zone}
-use Rattle.settlement.specs.declared.zones.Zone.TheVariants.{First, Second, Third}
+use Rattle.hours.specs.declared.zones.Zone.{Zone}
+use Rattle.hours.specs.declared.zones.Zone.TheVariants.{First, Second, Third}
 use Rattle.settlement.specs.Zones.{of}
 use Rattle.settlement.specs.Kinds.{energy}
 use Rattle.settlement.specs.Table.{ends, period_of}

@@ -1,14 +1,8 @@
 -- One thing for each of the three zones.
-use Rattle.std.specs.Prelude.{ℕ, List, [], ◌∷◌}
-use Rattle.settlement.specs.declared.zones.Zone.{Zone}
-use Rattle.settlement.specs.declared.zones.Zone.TheVariants.{First, Second, Third}
+use Rattle.std.specs.Prelude.{List, [], ◌∷◌}
+use Rattle.hours.specs.declared.zones.Zone.{Zone}
+use Rattle.hours.specs.declared.zones.Zone.TheVariants.{First, Second, Third}
 use Rattle.settlement.specs.declared.zones.Zones.{Zones}
-
--- the number of a zone
-abbrev pub number : Zone → ℕ
-number First = 1
-number Second = 2
-number Third = 3
 
 module _ {X : Type 0} where
   -- what a zone has

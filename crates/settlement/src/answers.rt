@@ -2,9 +2,9 @@
 ghost use Rattle.std.specs.Prelude.{◌≡◌};
 ghost use Rattle.settlement.specs.Lines.{zone_number};
 
-use crate::zones::{Zone, Zones};
+use crate::zones::Zones;
 use faults::AccountFault;
-use hours::MonthSums;
+use hours::{MonthSums, Zone};
 
 // An open portion in a settlement: its zone, which a deposit has none, its month, what the settlement used of it, and what
 // is left.

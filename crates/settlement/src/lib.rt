@@ -12,9 +12,10 @@ mod states;
 mod zones;
 
 pub use answers::{Line, Payment, Returned, Settlement};
+pub use hours::Zone;
 pub use standing::Standing;
 pub use states::{Call, MonthState, Period};
-pub use zones::{Zone, Zones};
+pub use zones::Zones;
 
 // A metering account keeps its promise after every history.
 pub fn metering_keeps_promise()

@@ -1,28 +1,9 @@
-// One thing for each of the zones.
+// One thing for each of the three zones.
 ghost use Rattle.std.specs.Prelude.{◌≡◌};
 ghost use Rattle.std.specs.Fn.{FnReturnsAt};
-ghost use Rattle.settlement.specs.Zones.{in_order, number, of, put, Matched, MatchedThree};
+ghost use Rattle.settlement.specs.Zones.{in_order, of, put, Matched, MatchedThree};
 
-// The zones, 1 to 3.
-#[derive(Clone, Copy, PartialEq, Eq, Debug)]
-pub enum Zone {
-    First,
-    Second,
-    Third,
-}
-
-impl Zone {
-    // Its number.
-    pub fn number(self) -> u8
-        ensures { result ≡ number self }
-    {
-        match self {
-            Zone::First => 1,
-            Zone::Second => 2,
-            Zone::Third => 3,
-        }
-    }
-}
+use hours::Zone;
 
 // One thing for each zone.
 #[derive(Clone, Copy, Default)]

@@ -1,6 +1,6 @@
 use Rattle.std.proofs.Common.{length, Err, refl, ap, ◌∙◌}
 use Rattle.std.proofs.lemmas.Result.{err_from_is_err_and}
-use Rattle.shelf.specs.Held.{room}
+use Rattle.store.specs.Held.{room}
 use Rattle.accounts.specs.Billed.{bill_opening}
 use Rattle.desk.specs.Accounts.{billing_opened}
 use Rattle.desk.specs.Means.{nothing_said}

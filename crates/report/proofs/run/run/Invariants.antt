@@ -1,5 +1,5 @@
 use Rattle.std.proofs.Common.{◌≡◌, length, string_bytes}
-use Rattle.shelf.specs.Held.{room}
+use Rattle.store.specs.Held.{room}
 use Rattle.accounts.specs.Means.{fewest}
 use Rattle.accounts.specs.Metered.{metered}
 use Rattle.accounts.specs.Billed.{billed}
