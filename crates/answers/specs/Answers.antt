@@ -1,6 +1,6 @@
 -- What is printed for an answer and for a refusal.
 use Rattle.std.specs.Prelude.{ℕ, List, [], ◌∷◌, ◌++◌, map, Some, None}
-use Rattle.settlement.specs.declared.zones.Zone.TheVariants.{First, Second, Third}
+use Rattle.hours.specs.declared.zones.Zone.TheVariants.{First, Second, Third}
 use Rattle.settlement.specs.declared.zones.Zones.{Zones}
 use Rattle.answers.specs.declared.kinds.Printed.{Printed}
 use Rattle.answers.specs.declared.kinds.Printed.TheVariants.{Line, Due, Turned, Refused}

@@ -1,5 +1,6 @@
 // Answers, and the lines that are printed for them.
-use settlement::{Line, Payment, Settlement, Zone};
+use hours::Zone;
+use settlement::{Line, Payment, Settlement};
 
 // What an accepted record is answered; the lines of a settlement stand in the caller's list.
 #[derive(Clone, Copy)]

@@ -6,7 +6,8 @@ ghost use Rattle.answers.specs.Answers.{printed, dues, bill_due, said_text, refu
 ghost use Rattle.answers.specs.Adds.{Adds, Begun};
 
 use crate::kinds::{Answer, Printed};
-use settlement::{Line, Payment, Settlement, Zone};
+use hours::Zone;
+use settlement::{Line, Payment, Settlement};
 use std::alloc::AllocError;
 
 // Adds one printed line to the text.

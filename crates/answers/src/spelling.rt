@@ -5,8 +5,8 @@ ghost use Rattle.answers.specs.Texts.{line_end, line_text};
 
 use crate::kinds::Printed;
 use arrayvec::ArrayString;
+use hours::Zone;
 use itoa::Buffer;
-use settlement::Zone;
 
 // The places of a line: a letter, at most four numbers of 20 digits with a blank before each, and the line's end.
 pub(crate) const PLACES: usize = 86;
