@@ -1,21 +1,17 @@
 -- How far a run has come: what a turn of its loop keeps, and what it comes to.
-use Rattle.std.proofs.Common.{◌≡◌, ℕ, zero, suc, ◌+◌, ◌<◌, ◌≤◌, Bool, true, false, cond, List, [], ◌∷◌, ◌++◌, length, take, drop, is_err, IfOk, IfErr, Some, None, Ok, Err, Option, Result, sym, refl, ap, ◌∙◌, subst, inl, inr, append_assoc, append-nil, arith}
+use Rattle.std.proofs.Common.{◌≡◌, ℕ, zero, suc, ◌+◌, ◌<◌, ◌≤◌, ◌⊎◌, Bool, true, false, cond, List, [], ◌∷◌, ◌++◌, length, take, drop, is_err, IfOk, IfErr, Some, None, Ok, Err, Option, Result, sym, refl, ap, ◌∙◌, subst, inl, inr, append_assoc, append-nil, arith}
 use Rattle.std.proofs.lemmas.List.{flat_map_more}
 use Rattle.std.specs.List.{flat_map}
 use Rattle.std.specs.declared.alloc.AllocError.{AllocError}
-use Rattle.faults.specs.declared.ProgramFault.{ProgramFault}
-use Rattle.settlement.specs.Metering.{MeterAccount}
-use Rattle.settlement.specs.Billing.{BillAccount}
 use Rattle.records.specs.Frames.{Framed, framed, first_frame, head_kind, whole}
 use Rattle.records.specs.Records.{decoded}
 use Rattle.records.proofs.Heads.{framed_parts, framed_joined}
-use Rattle.answers.specs.Said.{Said}
 use Rattle.answers.specs.Answers.{refusal_text}
 use Rattle.answers.proofs.Said.{refusal_some}
 use Rattle.desk.specs.declared.steps.Desk.{Desk}
 use Rattle.desk.specs.State.{State, outset}
 use Rattle.desk.specs.Outcome.{Outcome}
-use Rattle.desk.specs.Means.{Came, Means}
+use Rattle.desk.specs.Means.{Means}
 use Rattle.report.specs.Runs.{Entry, Trace, says, handled, outcome, answer_text, entry_text, first, entry_at, traced, trace, end_text, trace_text, report_text}
 use Rattle.report.specs.Laws.{Follows, ReadsPrices, NeedsMemory}
 use Rattle.report.proofs.Traces.{traced_some, traced_none}
@@ -25,19 +21,19 @@ abbrev onto : List Entry → Trace → Trace
 onto es t = record { entries = es ++ t.entries; stop = t.stop; rest = t.rest }
 
 -- the records before `rest`, which begins at place `at`, have printed out, and the desk stands where they left it
-pub record Sofar (all out : List ℕ) (d : Desk) (m : MeterAccount) (b : BillAccount) (at : ℕ) (rest : List ℕ) : Type 0 where
+pub record Sofar (all out : List ℕ) (d : Desk) (at : ℕ) (rest : List ℕ) : Type 0 where
   pub past : List Entry
   pub fuel : ℕ
   pub state : State
   pub enough : length rest ≤ fuel
   pub place : at + length rest ≡ length all
-  pub means : Means d m b state
+  pub means : Means d state
   pub entries : trace all ≡ onto past (traced fuel state at rest)
   pub text : out ≡ flat_map entry_text past
 
 -- at the beginning
-pub start : (all out : List ℕ) (d : Desk) (m : MeterAccount) (b : BillAccount) → out ≡ [] → Means d m b outset → Sofar all out d m b 0 all
-start all out d m b e means = record { past = []; fuel = length all; state = outset; enough = omega arith; place = omega arith; means = means; entries = refl; text = e }
+pub start : (all out : List ℕ) (d : Desk) → out ≡ [] → Means d outset → Sofar all out d 0 all
+start all out d e means = record { past = []; fuel = length all; state = outset; enough = omega arith; place = omega arith; means = means; entries = refl; text = e }
 
 -- two texts that are nothing together are nothing each
 no_front : (xs ys : List ℕ) → xs ++ ys ≡ [] → xs ≡ []
@@ -79,7 +75,7 @@ says_framed at s bs f e =
     ap (λ k. decoded k (drop 4 (take (4 + length f.payload) bs))) (head_is (take (4 + length f.payload) bs) (whole (take (4 + length f.payload) bs)) f.kind f.payload [] refl j.alone)
     ∙ ap (λ p. decoded f.kind p) (sym j.payload_is)
 
-module _ (all out : List ℕ) (d : Desk) (m : MeterAccount) (b : BillAccount) (at : ℕ) (rest : List ℕ) (sofar : Sofar all out d m b at rest) (f : Framed) (framed_so : framed rest ≡ Some f) where
+module _ (all out : List ℕ) (d : Desk) (at : ℕ) (rest : List ℕ) (sofar : Sofar all out d at rest) (f : Framed) (framed_so : framed rest ≡ Some f) where
   -- the record that comes next
   abbrev next : Entry
   next = entry_at at sofar.state rest f
@@ -110,37 +106,34 @@ module _ (all out : List ℕ) (d : Desk) (m : MeterAccount) (b : BillAccount) (a
   outcome_is = ap (handled sofar.state) (says_framed at sofar.state rest f framed_so)
 
   -- one record more
-  pub one_more : (out' : List ℕ) (d' : Desk) (m' : MeterAccount) (b' : BillAccount) (r : Result Said ProgramFault) → Came (handled sofar.state (decoded f.kind f.payload)) r (Means d' m' b') →
-      out' ≡ out ++ answer_text at r → Sofar all out' d' m' b' (at + (4 + length f.payload)) f.rest
-  one_more out' d' m' b' r came e =
+  pub one_more : (out' : List ℕ) (d' : Desk) → Means d' (handled sofar.state (decoded f.kind f.payload)).after → out' ≡ out ++ answer_text at (handled sofar.state (decoded f.kind f.payload)).answer →
+      Sofar all out' d' (at + (4 + length f.payload)) f.rest
+  one_more out' d' means e =
       let p = (framed_parts rest f framed_so).rest_length in
-      let same = outcome_is in
       record {
         past = sofar.past ++ (next ∷ []);
         fuel = the_step.fuel;
         state = (outcome next).after;
         enough = the_step.enough;
         place = omega (arith, sofar.place);
-        means = subst (λ (o : Outcome State). Means d' m' b' o.after) (sym same) came.1;
+        means = subst (λ (o : Outcome State). Means d' o.after) (sym outcome_is) means;
         entries = the_step.entries;
-        text = e ∙ ap (λ o. o ++ answer_text at r) sofar.text ∙ ap (λ a. flat_map entry_text sofar.past ++ answer_text at a) (sym came.0 ∙ ap (λ (o : Outcome State). o.answer) (sym same)) ∙ sym (joined_one sofar.past next);
+        text = e ∙ ap (λ o. o ++ answer_text at (handled sofar.state (decoded f.kind f.payload)).answer) sofar.text
+            ∙ ap (λ (o : Outcome State). flat_map entry_text sofar.past ++ answer_text at o.answer) (sym outcome_is) ∙ sym (joined_one sofar.past next);
       }
 
-  -- memory is wanting for its prices
-  pub wants_prices : ReadsPrices (decoded f.kind f.payload) → NeedsMemory all
-  wants_prices brings = inr (sofar.past, next, follows, subst ReadsPrices (sym (says_framed at sofar.state rest f framed_so)) brings)
-
-  -- or for its text
-  pub wants_text : (r : Result Said ProgramFault) (After : State → Type 0) → Came (handled sofar.state (decoded f.kind f.payload)) r After → (answer_text at r ≡ [] → ⊥) → NeedsMemory all
-  wants_text r After came some =
-      inl (λ none. some (ap (answer_text at) (sym came.0 ∙ ap (λ (o : Outcome State). o.answer) (sym outcome_is)) ∙ nothing_in sofar.past next follows.0 _ (ap (λ es. flat_map entry_text es ++ end_text (trace all).stop (trace all).rest) (sym follows.1) ∙ none)))
+  -- memory was wanting for its text, or for its prices
+  pub wants : ((answer_text at (handled sofar.state (decoded f.kind f.payload)).answer ≡ [] → ⊥) ⊎ ReadsPrices (decoded f.kind f.payload)) → NeedsMemory all
+  wants (inl some) =
+      inl (λ none. some (ap (λ (o : Outcome State). answer_text at o.answer) (sym outcome_is) ∙ nothing_in sofar.past next follows.0 _ (ap (λ es. flat_map entry_text es ++ end_text (trace all).stop (trace all).rest) (sym follows.1) ∙ none)))
+  wants (inr brings) = inr (sofar.past, next, follows, subst ReadsPrices (sym (says_framed at sofar.state rest f framed_so)) brings)
 
 -- the end of a file that ends in a record
 ended_by : (text out : List ℕ) (at : ℕ) (rest : List ℕ) → 0 < length rest → text ≡ out ++ end_text at rest → out ++ refusal_text at 31 ≡ text
 ended_by text out at [] some e = absurd (omega arith)
 ended_by text out at (x ∷ rest) some e = sym e
 
-module _ (all out : List ℕ) (d : Desk) (m : MeterAccount) (b : BillAccount) (at : ℕ) (rest : List ℕ) (sofar : Sofar all out d m b at rest) (none : framed rest ≡ None) where
+module _ (all out : List ℕ) (d : Desk) (at : ℕ) (rest : List ℕ) (sofar : Sofar all out d at rest) (none : framed rest ≡ None) where
   -- where no whole record follows, the text is that of the records so far and of the end
   text_so : report_text all ≡ out ++ end_text at rest
   text_so =
@@ -157,9 +150,9 @@ module _ (all out : List ℕ) (d : Desk) (m : MeterAccount) (b : BillAccount) (a
   wants_end some = inl (λ empty. refusal_some at 31 (no_back out (refusal_text at 31) (ended some ∙ empty)))
 
 -- at the end of the file
-pub finished : (all out : List ℕ) (d : Desk) (m : MeterAccount) (b : BillAccount) (at : ℕ) (rest : List ℕ) → Sofar all out d m b at rest → length rest ≡ 0 → out ≡ report_text all
-finished all out d m b at [] sofar e = sym (text_so all out d m b at [] sofar refl ∙ append-nil out)
-finished all out d m b at (x ∷ rest) sofar e = absurd (omega arith)
+pub finished : (all out : List ℕ) (d : Desk) (at : ℕ) (rest : List ℕ) → Sofar all out d at rest → length rest ≡ 0 → out ≡ report_text all
+finished all out d at [] sofar e = sym (text_so all out d at [] sofar refl ∙ append-nil out)
+finished all out d at (x ∷ rest) sofar e = absurd (omega arith)
 
 -- want of memory, told by an error
 pub wanting : {T : Type 0} (r : Result T AllocError) (P : T → Type 0) (N : Type 0) → is_err r ≡ true → N → IfOk r P × IfErr r (λ _. N)

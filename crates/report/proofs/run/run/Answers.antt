@@ -2,38 +2,28 @@ use Rattle.std.proofs.Common.{◌<◌, ◌++◌, length, string_bytes, sym, ap, 
 use Rattle.answers.specs.Answers.{refusal_text}
 use Rattle.records.specs.Frames.{Framed}
 use Rattle.records.proofs.Heads.{framed_parts}
-use Rattle.accounts.specs.Metered.{metered}
-use Rattle.accounts.specs.Billed.{billed}
-use Rattle.desk.specs.Means.{Means}
-use Rattle.report.proofs.Sofar.{start, one_more, finished, ended, wants_end, wants_prices, wants_text, wanting}
+use Rattle.report.proofs.Sofar.{start, one_more, finished, ended, wants_end, wants, wanting}
 use Rattle.report.proofs.run.run.Goals as goal
 
 pub loop-rest-init : goal.loop-rest-init
-loop-rest-init c = (start _ _ _ _ _ c.new-out.ensures.bytes (c.new-desk.ensures (metered c.args.metering.now) (billed c.args.billing.now)), c.requires.slots, c.requires.room, c.requires.lines)
+loop-rest-init c = start _ _ _ c.new-out.ensures.bytes c.requires
 
 pub returns-in_err-print_refusal : goal.returns-in_err-print_refusal
 returns-in_err-print_refusal c =
     let some : 0 < length c.loop-rest.rest.now = search rules in
-    let w = wanting _ _ _ c.from_residual.ensures.0 (wants_end _ _ _ _ _ _ _ c.loop-rest.invariant.0 (sym c.in_default.ensures) some) in
+    let w = wanting _ _ _ c.from_residual.ensures.0 (wants_end _ _ _ _ _ c.loop-rest.invariant (sym c.in_default.ensures) some) in
     record { text = w.0; wanting = w.1 }
 
 pub returns-in_default : goal.returns-in_default
 returns-in_default c =
     let some : 0 < length c.loop-rest.rest.now = search rules in
-    record { text = c.in_ok-print_refusal.ensures.text ∙ ap (λ n. string_bytes c.loop-rest.out ++ refusal_text c.loop-rest.place n) c.number.ensures ∙ ended _ _ _ _ _ _ _ c.loop-rest.invariant.0 (sym c.in_default.ensures) some; wanting = tt }
+    record { text = c.in_ok-print_refusal.ensures.text ∙ ap (λ n. string_bytes c.loop-rest.out ++ refusal_text c.loop-rest.place n) c.number.ensures ∙ ended _ _ _ _ _ c.loop-rest.invariant (sym c.in_default.ensures) some; wanting = tt }
 
-pub returns-in_err-answer : goal.returns-in_err-answer
-returns-in_err-answer c =
+pub returns-in_err-serve : goal.returns-in_err-serve
+returns-in_err-serve c =
     let f : Framed = record { kind = c.in-Some.frame.kind; payload = c.in-Some.frame.payload.now; rest = c.in-Some.frame.rest.now } in
-    let so = c.loop-rest.invariant.0 in
-    let w = wanting _ _ _ c.from_residual-in_err-answer.ensures.0 (wants_prices _ _ _ _ _ _ _ so f (sym c.in-Some.ensures) (c.in_err-answer.ensures.came so.state so.means)) in
-    record { text = w.0; wanting = w.1 }
-
-pub returns-in_err-print : goal.returns-in_err-print
-returns-in_err-print c =
-    let f : Framed = record { kind = c.in-Some.frame.kind; payload = c.in-Some.frame.payload.now; rest = c.in-Some.frame.rest.now } in
-    let so = c.loop-rest.invariant.0 in
-    let w = wanting _ _ _ c.from_residual-in_err-print.ensures.0 (wants_text _ _ _ _ _ _ _ so f (sym c.in-Some.ensures) _ (Means c.step.new.desk (metered c.step.new.metering) (billed c.step.new.billing)) (c.in_ok-answer.ensures.came so.state so.means) c.in_err-print.ensures.wanting) in
+    let so = c.loop-rest.invariant in
+    let w = wanting _ _ _ c.from_residual-in_err-serve.ensures.0 (wants _ _ _ _ _ so f (sym c.in-Some.ensures) (c.in_err-serve.ensures.wanting so.state so.means)) in
     record { text = w.0; wanting = w.1 }
 
 pub loop-rest-smaller : goal.loop-rest-smaller
@@ -42,12 +32,8 @@ loop-rest-smaller c = let p = framed_parts c.loop-rest.rest.now _ (sym c.in-Some
 pub loop-rest-preserved : goal.loop-rest-preserved
 loop-rest-preserved c =
     let f : Framed = record { kind = c.in-Some.frame.kind; payload = c.in-Some.frame.payload.now; rest = c.in-Some.frame.rest.now } in
-    let so = c.loop-rest.invariant.0 in (
-      one_more _ _ _ _ _ _ _ so f (sym c.in-Some.ensures) _ _ _ _ _ (c.in_ok-answer.ensures.came so.state so.means) c.in_ok-print.ensures.text,
-      c.step.ensures.slots,
-      c.step.ensures.room,
-      c.step.auto.lines ∙ c.loop-rest.invariant.3,
-    )
+    let so = c.loop-rest.invariant in
+    one_more _ _ _ _ _ so f (sym c.in-Some.ensures) _ _ (c.in_ok-serve.ensures.stands so.state so.means) (c.in_ok-serve.ensures.text so.state so.means)
 
 pub returns : goal.returns
-returns c = record { text = finished _ _ _ _ _ _ _ c.loop-rest.invariant.0 (search rules); wanting = tt }
+returns c = record { text = finished _ _ _ _ _ c.loop-rest.invariant (search rules); wanting = tt }
