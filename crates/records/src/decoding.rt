@@ -36,6 +36,7 @@ pub enum Record<'a> {
 pub fn decode(kind: u16, payload: &[u8]) -> Result<Record<'_>, ProgramFault>
     ensures { read_model result ≡ decoded kind payload.now }
 {
+    // The numbers are the file's: an enum of the kinds would only name them between two matches.
     match kind {
         1 => metering(payload),
         2 => billing(payload),
@@ -81,15 +82,13 @@ fn billing(payload: &[u8]) -> Result<Record<'_>, ProgramFault>
 fn book(payload: &[u8]) -> Result<Record<'_>, ProgramFault>
     ensures { read_model result ≡ decoded_book payload.now }
 {
-    let Some((working, after)) = payload.split_first_chunk::<24>() else {
-        return Err(ProgramFault::Malformed);
-    };
-    let Some((weekend, prices)) = after.split_first_chunk::<24>() else {
-        return Err(ProgramFault::Malformed);
-    };
-    let Some(sale) = sale_prices(prices) else {
-        return Err(ProgramFault::Malformed);
-    };
+    let (working, after) = payload
+        .split_first_chunk::<24>()
+        .ok_or(ProgramFault::Malformed)?;
+    let (weekend, prices) = after
+        .split_first_chunk::<24>()
+        .ok_or(ProgramFault::Malformed)?;
+    let sale = sale_prices(prices).ok_or(ProgramFault::Malformed)?;
     Ok(Record::OpenBook {
         marks: [*working, *weekend],
         sale,

@@ -35,6 +35,7 @@ fn sale_bytes(sale: [u32; 3]) -> [u8; 12]
 }
 
 // Writes the part into the bytes from a place on; what stands before the place is kept.
+// (In one function, over the whole array, the proof that the last part is within did not close.)
 fn write_at(bytes: &mut [u8], place: usize, part: &[u8])
     requires { place + length part.now ≤ length bytes.old }
     ensures { take (place + length part.now) bytes.new ≡ take place bytes.old ++ part.now }

@@ -1,6 +1,9 @@
 // Where one record ends and the next begins.
-ghost use Rattle.std.specs.Prelude.{◌≡◌};
-ghost use Rattle.records.specs.Frames.{frame_model, framed};
+ghost use Rattle.std.specs.Prelude.{◌≡◌, length};
+ghost use Rattle.std.specs.Iterator.{at_most};
+ghost use Rattle.records.specs.Frames.{frame_model, framed, Counted, NextGives};
+
+use faults::ProgramFault;
 
 // A record's kind and payload, and the bytes after it.
 #[derive(Clone, Copy)]
@@ -27,4 +30,67 @@ pub fn next_frame(input: &[u8]) -> Option<Frame<'_>>
         payload,
         rest,
     })
+}
+
+// A record of a file, and the place where it begins; or that the file ends in it.
+#[derive(Clone, Copy)]
+pub struct Placed<'a> {
+    pub place: usize,
+    pub frame: Result<Frame<'a>, ProgramFault>,
+}
+
+// The records of a file that are left, and the place of the first.
+#[derive(Clone, Copy)]
+pub struct Frames<'a> {
+    place: usize,
+    rest: &'a [u8],
+}
+
+impl<'a> Frames<'a> {
+    // All records of a file.
+    pub fn new(input: &'a [u8]) -> Frames<'a>
+        ensures place { result.place ≡ 0 }
+        ensures rest { result.rest.now ≡ input.now }
+        ensures counted { Counted result }
+    {
+        Frames {
+            place: 0,
+            rest: input,
+        }
+    }
+}
+
+impl<'a> Iterator for Frames<'a> {
+    type Item = Placed<'a>;
+
+    ghost can_next = { Counted };
+
+    ghost next_gives = { NextGives };
+
+    ghost remaining = { λ s. at_most (length s.rest.now) };
+
+    fn next(&mut self) -> Option<Placed<'a>> {
+        if self.rest.is_empty() {
+            return None;
+        }
+        let place = self.place;
+        match next_frame(self.rest) {
+            Some(frame) => {
+                self.place += 4 + frame.payload.len();
+                self.rest = frame.rest;
+                Some(Placed {
+                    place,
+                    frame: Ok(frame),
+                })
+            }
+            None => {
+                self.place += self.rest.len();
+                self.rest = &[];
+                Some(Placed {
+                    place,
+                    frame: Err(ProgramFault::FileEnds),
+                })
+            }
+        }
+    }
 }

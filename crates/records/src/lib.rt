@@ -27,5 +27,5 @@ pub use decoding::{Record, decode};
 pub use encoding::{
     encode_bare, encode_billing, encode_book, encode_metering, encode_month_price, encode_reading,
 };
-pub use frames::{Frame, next_frame};
+pub use frames::{Frame, Frames, Placed, next_frame};
 pub use prices::{Unwritten, encode_hour_prices, price_list};

@@ -20,13 +20,8 @@ pub(crate) fn price_of(bytes: [u8; 4]) -> i32
 pub fn price_list(heap: Global, bytes: &[u8]) -> Result<Vec<i32>, AllocError>
     ensures { IfOk result (λ v. v.items ≡ prices_read bytes.now) }
 {
-    let mut prices = Vec::with_capacity(heap, bytes.len() / 4)?;
-    let mut left = bytes;
-    while let [a, b, c, d, after @ ..] = left {
-        prices.push(price_of([*a, *b, *c, *d]))?;
-        left = after;
-    }
-    Ok(prices)
+    let (fours, _) = bytes.as_chunks::<4>();
+    fours.iter().map(|four| price_of(*four)).collect(heap)
 }
 
 // Why prices were not written: there are too many, or there is no memory for the bytes.

@@ -6,10 +6,8 @@ ghost use Rattle.report.specs.Runs.{report_text};
 ghost use Rattle.report.specs.Laws.{Continues, EveryByte, NeedsMemory, PromisesKept, RefusedAlone};
 
 use crate::workplace::{SLOTS, Workplace};
-use answers::print_refusal;
-use faults::ProgramFault;
 use portions::Slot;
-use records::next_frame;
+use records::Frames;
 use std::alloc::{AllocError, Global};
 
 // A slot that nothing was written into.
@@ -27,16 +25,8 @@ fn run(heap: Global, work: &mut Workplace<'_>, input: &[u8]) -> Result<String, A
     ensures wanting { OnErr result (NeedsMemory input.now) }
 {
     let mut out = String::new(heap);
-    let mut place = 0usize;
-    let mut rest = input;
-    while !rest.is_empty() {
-        let Some(frame) = next_frame(rest) else {
-            print_refusal(&mut out, place, ProgramFault::FileEnds.number())?;
-            return Ok(out);
-        };
-        work.serve(heap, &mut out, place, frame.kind, frame.payload)?;
-        place += 4 + frame.payload.len();
-        rest = frame.rest;
+    for placed in Frames::new(input) {
+        work.serve(heap, &mut out, placed)?;
     }
     Ok(out)
 }

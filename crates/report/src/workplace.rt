@@ -1,16 +1,17 @@
 // The desk that a run works at.
 ghost use Rattle.std.specs.Prelude.{◌≡◌, ◌++◌, ◌⊎◌, ◌≢◌, [], string_bytes, OnErr, OnOk};
-ghost use Rattle.records.specs.Records.{decoded};
+ghost use Rattle.records.specs.Frames.{found};
 ghost use Rattle.desk.specs.State.{State, outset};
 ghost use Rattle.desk.specs.Means.{Means, memory_of};
-ghost use Rattle.report.specs.Runs.{answer_text, handled, program_memory};
+ghost use Rattle.report.specs.Runs.{answer_text, handled, program_memory, read_of};
 ghost use Rattle.report.specs.Laws.{Handled, ReadsPrices};
 
 use accounts::{Billing, Metering};
 use answers::{Answer, print_answer, print_refusal};
 use desk::{Desk, StepFault};
+use faults::ProgramFault;
 use portions::Slot;
-use records::decode;
+use records::{Frame, Placed, decode};
 use settlement::Line;
 use std::alloc::{AllocError, Global};
 
@@ -54,30 +55,33 @@ impl<'a> Workplace<'a> {
         }
     }
 
-    // Takes a record: its answer, or why it has none.
-    fn step(&mut self, heap: Global, kind: u16, payload: &[u8]) -> Result<Answer, StepFault>
-        ensures { (s : State) → Means self.old.desk s → Handled s (decoded kind payload.now) result self.new.lines (Means self.new.desk) }
+    // Takes a record, or refuses that the file ends in it: its answer, or why it has none.
+    fn step(
+        &mut self,
+        heap: Global,
+        frame: Result<Frame<'_>, ProgramFault>,
+    ) -> Result<Answer, StepFault>
+        ensures { (s : State) → Means self.old.desk s → Handled s (read_of (found frame.entry)) result self.new.lines (Means self.new.desk) }
     {
-        let said = decode(kind, payload)?;
+        let frame = frame?;
+        let said = decode(frame.kind, frame.payload)?;
         self.desk.take(heap, &said, &mut self.lines)
     }
 
-    // Takes the record at this place, and prints its answer or its refusal.
+    // Takes a record, and prints its answer or its refusal.
     pub(crate) fn serve(
         &mut self,
         heap: Global,
         out: &mut String,
-        place: usize,
-        kind: u16,
-        payload: &[u8],
+        placed: Placed<'_>,
     ) -> Result<(), AllocError>
-        ensures text { (s : State) → Means self.old.desk s → OnOk result (string_bytes out.new ≡ string_bytes out.old ++ answer_text place (handled s (decoded kind payload.now)).answer) }
-        ensures stands { (s : State) → Means self.old.desk s → OnOk result (Means self.new.desk (handled s (decoded kind payload.now)).after) }
-        ensures wanting { (s : State) → Means self.old.desk s → OnErr result ((answer_text place (handled s (decoded kind payload.now)).answer ≢ []) ⊎ ReadsPrices (decoded kind payload.now)) }
+        ensures text { (s : State) → Means self.old.desk s → OnOk result (string_bytes out.new ≡ string_bytes out.old ++ answer_text placed.entry.place (handled s (read_of (found placed.entry.frame))).answer) }
+        ensures stands { (s : State) → Means self.old.desk s → OnOk result (Means self.new.desk (handled s (read_of (found placed.entry.frame))).after) }
+        ensures wanting { (s : State) → Means self.old.desk s → OnErr result ((answer_text placed.entry.place (handled s (read_of (found placed.entry.frame))).answer ≢ []) ⊎ ReadsPrices (read_of (found placed.entry.frame))) }
     {
-        match self.step(heap, kind, payload) {
+        match self.step(heap, placed.frame) {
             Ok(answer) => print_answer(out, &answer, &self.lines),
-            Err(StepFault::Refused(fault)) => print_refusal(out, place, fault.number()),
+            Err(StepFault::Refused(fault)) => print_refusal(out, placed.place, fault.number()),
             Err(StepFault::NoMemory) => Err(AllocError),
         }
     }
