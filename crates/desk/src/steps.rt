@@ -49,8 +49,7 @@ impl<'a> Desk<'a> {
         if self.book.is_some() {
             return Err(ProgramFault::OutOfPlace);
         }
-        let open = OpenBook::open(month, marks, sale)?;
-        self.book = Some(open);
+        self.book = Some(OpenBook::open(month, marks, sale)?);
         Ok(())
     }
 
