@@ -5,10 +5,6 @@ use Rattle.faults.specs.declared.StoreFault.{StoreFault}
 use Rattle.ledger.specs.Ledger.{Ledger}
 use Rattle.ledger.specs.Calls.{draw_refusal, turn_refusal}
 
--- what an answer holds
-pub held_in : {V : Type 0} (v w : V) → ◌≡◌ {A = Result V StoreFault} (Ok v) (Ok w) → v ≡ w
-held_in v w e = cc
-
 module _ {T : Type 0} (l : Ledger T) (ready : l.opened ≡ true) where
   pub draw_allowed : (wanted : ℕ) → wanted ≤ 1000000000 → draw_refusal wanted l ≡ None
   draw_allowed wanted small = simp (ready, le-leb wanted 1000000000 small)

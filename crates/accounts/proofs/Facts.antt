@@ -1,4 +1,4 @@
--- What holds of every sound shelf, for those who use one.
+-- What holds of every store, for those who use one.
 use Rattle.std.proofs.Common.{◌≡◌, ℕ, ◌+◌, ◌-◌, ◌≤◌, Bool, true, false, cond, List, [], ◌∷◌, length, filter, sym, refl, ap, ◌∙◌, subst, arith, eqb-true}
 use Rattle.std.proofs.lemmas.List.{length-map, length-take-le}
 use Rattle.portions.specs.Portions.{Portion}
@@ -6,12 +6,12 @@ use Rattle.portions.specs.Slots.{reads, plain}
 use Rattle.portions.specs.declared.Kind.{Ghosts}
 use Rattle.ledger.specs.Ledger.{Ledger, has}
 use Rattle.ledger.specs.Steps.{stays_in, refunds, losses, turning}
-use Rattle.shelf.specs.declared.Shelf.{Shelf}
-use Rattle.shelf.specs.Held.{held, lent, in_use}
-use Rattle.shelf.specs.Reading.{kind_of, ledger_of}
-use Rattle.shelf.specs.Sound.{Sound, rises, kept}
-use Rattle.shelf.proofs.Parts.{parts}
-use Rattle.shelf.proofs.Rise.{rises_length, has_plain, totals_small}
+use Rattle.store.specs.declared.Store.{Store}
+use Rattle.store.specs.Held.{held, lent, in_use}
+use Rattle.store.specs.Reading.{kind_of, ledger_of}
+use Rattle.store.specs.Sound.{rises, kept, span}
+use Rattle.store.proofs.Parts.{parts}
+use Rattle.store.proofs.Rise.{rises_length, has_plain}
 use Rattle.accounts.specs.Bounds.{FreeIn}
 
 -- months below `end` are not `end`
@@ -28,31 +28,27 @@ has_kept m f (p ∷ ps) h =
     let r = has_kept m f ps in
     elim (f p) as (λ b. has m (cond b (p ∷ filter f ps) (filter f ps)) ≡ false) [ true ↦ grind arith | false ↦ grind arith ]
 
-module _ {K T : Type 0} (k : Ghosts K T) (s : Shelf K T) (sound : Sound s) where
+-- no portion is open for longer than its life and one month more
+span_most : (life : ℕ) (opened : Bool) → span life opened ≤ life + 1
+span_most life true = omega arith
+span_most life false = omega arith
+
+module _ {K T : Type 0} (k : Ghosts K T) (s : Store K T k) where
   -- a row is in use for each portion
   pub in_use_is : length (ledger_of k s).portions ≡ in_use s
-  in_use_is = length-map (held s.rows) (reads k.term) ∙ length-take-le (in_use s) (lent s) (parts s sound).placed
+  in_use_is = length-map (held s.rows) (reads k.term) ∙ length-take-le (in_use s) (lent s) s.rows.within
 
-  -- an open store has at most life + 1 portions
-  pub few_open : (ledger_of k s).opened ≡ true → length (ledger_of k s).portions ≤ k.life + 1
-  few_open o =
-      let span = eqb-true s.span (k.life + 1) o in
-      let few = rises_length (s.month + 1 - s.span) (s.month + 1) (kept s) (parts s sound).rising in
-      omega (arith, span, few, length-map (held s.rows) plain, length-map (held s.rows) (reads k.term))
+  -- at most life + 1 portions are open
+  pub few_open : length (ledger_of k s).portions ≤ k.life + 1
+  few_open =
+      let few = rises_length (s.month + 1 - span k.life s.opened) (s.month + 1) (kept s.rows) (parts s).rising in
+      let long = span_most k.life s.opened in
+      omega (arith, long, few, length-map (held s.rows) plain, length-map (held s.rows) (reads k.term))
 
   -- no portion is of the month to come
   none_next : has (s.month + 1) (ledger_of k s).portions ≡ false
-  none_next = has_plain k.term (s.month + 1) (held s.rows) ∙ rises_below (s.month + 1 - s.span) (s.month + 1) (kept s) (parts s sound).rising
+  none_next = has_plain k.term (s.month + 1) (held s.rows) ∙ rises_below (s.month + 1 - span k.life s.opened) (s.month + 1) (kept s.rows) (parts s).rising
 
-  module _ (s' : Shelf K T) (sound' : Sound s') (is : ledger_of k s' ≡ turning (kind_of k) (ledger_of k s)) where
-    -- a store that has turned has no portion of its month
-    pub turned_free : FreeIn (ledger_of k s')
-    turned_free = subst (λ (l : Ledger T). FreeIn l) (sym is) (has_kept (s.month + 1) (stays_in k.life (s.month + 1)) (ledger_of k s).portions none_next)
-
-    -- and what the turn ended is little
-    pub turned_small : refunds (kind_of k) (ledger_of k s) + losses (kind_of k) (ledger_of k s) ≤ 120000000000
-    turned_small =
-        let p = parts s' sound' in
-        let r = ap (λ (l : Ledger T). l.refunded) is in
-        let x = ap (λ (l : Ledger T). l.lost) is in
-        omega (arith, r, x, p.balance, totals_small s' p)
+  -- a store that has turned has no portion of its month
+  pub turned_free : (s' : Store K T k) → ledger_of k s' ≡ turning (kind_of k) (ledger_of k s) → FreeIn (ledger_of k s')
+  turned_free s' is = subst (λ (l : Ledger T). FreeIn l) (sym is) (has_kept (s.month + 1) (stays_in k.life (s.month + 1)) (ledger_of k s).portions none_next)

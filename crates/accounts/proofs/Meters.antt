@@ -9,7 +9,7 @@ use Rattle.settlement.specs.declared.answers.Line.{Line}
 use Rattle.settlement.specs.declared.states.MonthState.{MonthState}
 use Rattle.settlement.specs.declared.states.MonthState.TheVariants.{Waiting, Entered, Settled}
 use Rattle.settlement.specs.declared.states.Period.{Period}
-use Rattle.settlement.specs.declared.states.Zones.{Zones}
+use Rattle.settlement.specs.declared.zones.Zones.{Zones}
 use Rattle.settlement.specs.Zones.{all, each, each_two}
 use Rattle.settlement.specs.Kinds.{energy}
 use Rattle.settlement.specs.Table.{period_of}
@@ -23,9 +23,9 @@ Ledgers = Zones (Ledger (Unit {0}))
 abbrev pub account : Bool → ℕ → Period → MonthState → Zones ℕ → Ledgers → MeterAccount
 account opened coefficient period state pending stores = record { opened = opened; coefficient = coefficient; period = period; state = state; pending = pending; stores = stores }
 
-pub opened_meter : (o : MeterOpening) (c : ℕ) (period : Period) (stores : Ledgers) → c ≡ coefficient_for o.power → period ≡ or_monthly (period_of o.months) → stores ≡ all (ledger.opening o.month) →
-    account true c period Waiting (all 0) stores ≡ opening o
-opened_meter o c period stores e f g = cc
+pub opened_meter : (o : MeterOpening) (c : ℕ) (period : Period) (stores : Ledgers) (pending : Zones ℕ) → c ≡ coefficient_for o.power → period ≡ or_monthly (period_of o.months) → stores ≡ all (ledger.opening o.month) → pending ≡ all 0 →
+    account true c period Waiting pending stores ≡ opening o
+opened_meter o c period stores pending e f g h = cc
 
 module _ (a : MeterAccount) (next : MonthState) (stores : Ledgers) (is_open : a.opened ≡ true) where
   abbrev with_stores : Zones ℕ → Ledgers → MeterAccount
@@ -40,16 +40,18 @@ module _ (a : MeterAccount) (next : MonthState) (stores : Ledgers) (is_open : a.
       ∙ ap (λ n'. account a.opened a.coefficient a.period n' (entering_meter sums a).pending (entering_meter sums a).stores) n
       ∙ ap (λ b. account b a.coefficient a.period Entered (entering_meter sums a).pending (entering_meter sums a).stores) is_open
 
-  pub turned_meter : next ≡ Waiting → stores ≡ each (turning energy) a.stores → with_stores a.pending stores ≡ turning_meter a
-  turned_meter n s =
-      ap (with_stores a.pending) s
+  pub turned_meter : (pending : Zones ℕ) → next ≡ Waiting → stores ≡ each (turning energy) a.stores → pending ≡ a.pending → with_stores pending stores ≡ turning_meter a
+  turned_meter pending n s p =
+      ap (λ q. with_stores q stores) p
+      ∙ ap (with_stores a.pending) s
       ∙ ap (λ n'. account a.opened a.coefficient a.period n' a.pending (turning_meter a).stores) n
       ∙ ap (λ b. account b a.coefficient a.period Waiting a.pending (turning_meter a).stores) is_open
 
 module _ (rule : Rule) (a : MeterAccount) (end : Course) (is : end ≡ settled_course rule a) where
-  pub settled_meter : (next : MonthState) → a.opened ≡ true → next ≡ Settled → account a.opened a.coefficient a.period next (all 0) end.stores ≡ settling_meter rule a
-  settled_meter next is_open n =
-      ap (λ b. account b a.coefficient a.period next (all 0) end.stores) is_open
+  pub settled_meter : (next : MonthState) (pending : Zones ℕ) → a.opened ≡ true → next ≡ Settled → pending ≡ all 0 → account a.opened a.coefficient a.period next pending end.stores ≡ settling_meter rule a
+  settled_meter next pending is_open n p =
+      ap (λ q. account a.opened a.coefficient a.period next q end.stores) p
+      ∙ ap (λ b. account b a.coefficient a.period next (all 0) end.stores) is_open
       ∙ ap (λ n'. account true a.coefficient a.period n' (all 0) end.stores) n
       ∙ ap (λ (x : Course). account true a.coefficient a.period Settled (all 0) x.stores) is
 

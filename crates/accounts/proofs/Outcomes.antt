@@ -4,8 +4,9 @@ use Rattle.std.proofs.lemmas.Bool.{leb-true}
 use Rattle.faults.specs.declared.AccountFault.{AccountFault}
 use Rattle.hours.specs.declared.sums.MonthSums.{MonthSums}
 use Rattle.ledger.specs.Rules.{Rule, LawfulRule}
-use Rattle.shelf.specs.declared.Shelf.{Shelf}
-use Rattle.shelf.specs.Slots.{Accounted}
+use Rattle.portions.specs.declared.Kind.{Ghosts}
+use Rattle.store.specs.declared.Store.{Store}
+use Rattle.store.specs.Slots.{Accounted}
 use Rattle.settlement.specs.declared.answers.Line.{Line}
 use Rattle.settlement.specs.declared.answers.Returned.{Returned}
 use Rattle.settlement.specs.declared.standing.Standing.{Standing}
@@ -52,7 +53,7 @@ module _ {V : Type 0} where
   turns_into o new old is passed e = e ∙ ap (λ x. becomes x new old) (sym passed)
 
 -- a refused call changes no slot
-pub unchanged : {K T : Type 0} (accepted : Bool) (s : Shelf K T) → Accounted accepted s s
+pub unchanged : {K T : Type 0} {k : Ghosts K T} (accepted : Bool) (s : Store K T k) → Accounted accepted s s
 unchanged accepted s = record { others = refl; refused = λ _. refl; same_room = refl; lender = refl }
 
 -- two amounts by their parts

@@ -1,8 +1,6 @@
 -- What the settlement of a bill writes.
-use Rattle.std.proofs.Common.{◌≡◌, ℕ, ◌+◌, ◌≤◌, List, ◌++◌, length, drop, sym, ap, ◌∙◌, arith}
-use lib.Seq.{paste}
+use Rattle.std.proofs.Common.{◌≡◌, ℕ, ◌+◌, ◌≤◌, List, ◌++◌, length, drop, None, sym, ap, ◌∙◌, arith}
 use Rattle.std.proofs.lemmas.List.{length-map}
-use Rattle.std.proofs.lemmas.List.Edits.{paste_all}
 use Rattle.portions.specs.Portions.{Portion}
 use Rattle.ledger.specs.Rules.{Rule}
 use Rattle.ledger.specs.Ledger.{Ledger, lefts}
@@ -20,17 +18,14 @@ module _ (rule : Rule) (b : BillAccount) (l : Ledger ℕ) (is : l ≡ drawing (p
       omega (arith, n, length-map b.store.portions (λ (p : Portion ℕ). p.left))
 
   module _ (ls : List ℕ) (known : ls ≡ lefts b.store) where
-    lines_are : lines_of 0 ls l.portions ≡ bill_lines rule b
-    lines_are = ap (λ x. lines_of 0 x l.portions) known ∙ ap (λ (x : Ledger ℕ). lines_of 0 (lefts b.store) x.portions) is
+    lines_are : lines_of None ls l.portions ≡ bill_lines rule b
+    lines_are = ap (λ x. lines_of None x l.portions) known ∙ ap (λ (x : Ledger ℕ). lines_of None (lefts b.store) x.portions) is
 
     count_is : length l.portions ≡ length (bill_lines rule b)
-    count_is = sym (length_lines_of 0 (lefts b.store) l.portions known_lefts) ∙ ap length (ap (λ x. lines_of 0 x l.portions) (sym known) ∙ lines_are)
+    count_is = sym (length_lines_of None (lefts b.store) l.portions known_lefts) ∙ ap length (ap (λ x. lines_of None x l.portions) (sym known) ∙ lines_are)
 
-    pub paid_count : (n : ℕ) → n ≡ 0 + length l.portions → n ≡ length (bill_lines rule b)
-    paid_count n e = omega (arith, e, count_is)
+    pub paid_count : (n : ℕ) → n ≡ length l.portions → n ≡ length (bill_lines rule b)
+    paid_count n e = e ∙ count_is
 
-    pub paid_lines : (d w : List Line) → w ≡ paste d 0 (lines_of 0 ls l.portions) (length l.portions) → w ≡ written (bill_lines rule b) d
-    paid_lines d w e =
-        let at : 0 + length (bill_lines rule b) ≡ length (bill_lines rule b) = omega arith in
-        e ∙ ap (λ x. paste d 0 x (length l.portions)) lines_are ∙ ap (paste d 0 (bill_lines rule b)) count_is
-        ∙ paste_all d 0 (bill_lines rule b) (length (bill_lines rule b)) (omega arith) ∙ ap (λ k. bill_lines rule b ++ drop k d) at
+    pub paid_lines : (d w : List Line) → w ≡ written (lines_of None ls l.portions) d → w ≡ written (bill_lines rule b) d
+    paid_lines d w e = e ∙ ap (λ x. written x d) lines_are

@@ -4,8 +4,8 @@ use Rattle.hours.specs.declared.sums.MonthSums.{MonthSums}
 use Rattle.settlement.specs.declared.states.MonthState.{MonthState}
 use Rattle.settlement.specs.declared.states.MonthState.TheVariants.{Waiting, Entered}
 use Rattle.settlement.specs.declared.states.Period.{Period}
-use Rattle.settlement.specs.declared.states.Zone.TheVariants.{First, Second, Third}
-use Rattle.settlement.specs.declared.states.Zones.{Zones}
+use Rattle.hours.specs.declared.zones.Zone.TheVariants.{First, Second, Third}
+use Rattle.settlement.specs.declared.zones.Zones.{Zones}
 use Rattle.settlement.specs.Zones.{each_two}
 use Rattle.settlement.specs.Bounds.{most_pending}
 use Rattle.settlement.specs.Metering.{split_by_zone}
@@ -29,9 +29,6 @@ module _ (period : Period) (m : ℕ) (pending : Zones ℕ) where
   few_in state is e w = subst (λ (s : MonthState). Within (most_pending s period m) pending) e w
 
   -- six months are pending at most
-  pub waiting_few : Within (most_pending Waiting period m) pending → Within 447000000 pending
-  waiting_few w = within_more (most_pending Waiting period m) 447000000 (omega (arith, before_few period m)) pending w
-
   pub entered_few_in_all : Within (most_pending Entered period m) pending → Within 447000000 pending
   entered_few_in_all w = within_more (most_pending Entered period m) 447000000 (omega (arith, before_few period m)) pending w
 

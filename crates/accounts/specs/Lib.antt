@@ -1,5 +1,6 @@
 pub mod Means
 pub mod Bounds
 pub mod Slots
+pub mod Coefficients
 pub mod Billed
 pub mod Metered

@@ -1,54 +1,47 @@
 -- What the stores inside an account mean.
 use Rattle.std.specs.Prelude.{ℕ, min}
 use Rattle.portions.specs.declared.Kind.{Ghosts}
-use Rattle.portions.specs.declared.energy.Energy.{Energy}
-use Rattle.portions.specs.declared.deposit.Deposit.{Deposit}
+use Rattle.portions.specs.declared.terms.Termed.{Termed}
 use Rattle.ledger.specs.Ledger.{Ledger}
-use Rattle.shelf.specs.declared.Shelf.{Shelf}
-use Rattle.shelf.specs.Held.{room}
-use Rattle.shelf.specs.Reading.{ledger_of}
-use Rattle.settlement.specs.declared.states.Zones.{Zones}
-use Rattle.settlement.specs.Zones.{each}
-use Rattle.settlement.specs.Metering.{Course}
-
--- a shelf of energy
-abbrev pub EnergyShelf : Type 0
-EnergyShelf = Shelf Energy (Unit {0})
-
--- a shelf of deposits
-abbrev pub DepositShelf : Type 0
-DepositShelf = Shelf Deposit ℕ
+use Rattle.store.specs.declared.Store.{Store}
+use Rattle.store.specs.Held.{room}
+use Rattle.store.specs.Reading.{ledger_of}
+use Rattle.settlement.specs.declared.zones.Zones.{Zones}
 
 -- the kind of energy, as the code has it
-abbrev pub energy_kind : Ghosts Energy (Unit {0})
+abbrev pub energy_kind : Ghosts (Termed (Unit {0})) (Unit {0})
 energy_kind = record {
   life = 12;
-  means = λ p. record { month = p.stock.month; entered = p.stock.entered; left = p.stock.left; terms = tt };
+  means = λ p. record { month = p.stock.month; entered = p.stock.entered; left = p.stock.left; terms = p.terms };
   term = λ s. tt;
   refund = λ p. 0;
 }
 
 -- the kind of deposits, as the code has it
-abbrev pub deposit_kind : Ghosts Deposit ℕ
+abbrev pub deposit_kind : Ghosts (Termed ℕ) ℕ
 deposit_kind = record {
   life = 12;
-  means = λ p. record { month = p.stock.month; entered = p.stock.entered; left = p.stock.left; terms = p.«cap» };
+  means = λ p. record { month = p.stock.month; entered = p.stock.entered; left = p.stock.left; terms = p.terms };
   term = λ s. s.terms;
   refund = λ p. min p.terms p.left;
 }
 
--- the ledger of a shelf of energy
-abbrev pub energies : EnergyShelf → Ledger (Unit {0})
+-- a store of energy
+abbrev pub EnergyStore : Type 0
+EnergyStore = Store (Termed (Unit {0})) (Unit {0}) energy_kind
+
+-- a store of deposits
+abbrev pub DepositStore : Type 0
+DepositStore = Store (Termed ℕ) ℕ deposit_kind
+
+-- the ledger of a store of energy
+abbrev pub energies : EnergyStore → Ledger (Unit {0})
 energies s = ledger_of energy_kind s
 
--- the ledger of a shelf of deposits
-abbrev pub deposits : DepositShelf → Ledger ℕ
+-- the ledger of a store of deposits
+abbrev pub deposits : DepositStore → Ledger ℕ
 deposits s = ledger_of deposit_kind s
 
--- how far a settlement of these stores has come
-abbrev pub course : Zones EnergyShelf → Zones ℕ → Course
-course s rests = record { stores = each energies s; rests = rests }
-
 -- the fewest slots that a store has
-abbrev pub fewest : Zones EnergyShelf → ℕ
+abbrev pub fewest : Zones EnergyStore → ℕ
 fewest s = min (min (room s.one) (room s.two)) (room s.three)

@@ -1,13 +1,19 @@
 -- What a metering account of the code means.
 use Rattle.std.specs.Prelude.{ℕ}
 use Rattle.settlement.specs.Zones.{each}
-use Rattle.settlement.specs.Metering.{MeterAccount, MeterOpening}
+use Rattle.settlement.specs.Metering.{MeterAccount, MeterOpening, Course}
+use Rattle.accounts.specs.declared.metering.Meters.{Meters}
 use Rattle.accounts.specs.declared.metering.Metering.{Metering}
+use Rattle.accounts.specs.Coefficients.{tenths}
 use Rattle.accounts.specs.Means.{energies}
+
+-- how far a settlement of these meters has come: what is pending is what is not covered yet
+abbrev pub course : Meters → Course
+course m = record { stores = each energies m.stores; rests = m.pending }
 
 -- what it means, with its stores read as ledgers
 abbrev pub metered : Metering → MeterAccount
-metered m = record { opened = m.opened; coefficient = m.coefficient; period = m.period; state = m.state; pending = m.pending; stores = each energies m.stores }
+metered m = record { opened = m.opened; coefficient = tenths m.coefficient; period = m.period; state = m.state; pending = m.meters.pending; stores = each energies m.meters.stores }
 
 -- what it is opened for
 abbrev pub meter_opening : (slots month power months : ℕ) → MeterOpening

@@ -1,12 +1,11 @@
 ghost use Rattle.std.specs.Prelude.{◌≡◌, ◌≤◌, true};
 ghost use Rattle.settlement.specs.declared.states.MonthState.TheVariants.{Waiting};
-ghost use Rattle.shelf.specs.Sound.{Sound};
 ghost use Rattle.accounts.specs.Means.{deposits};
 ghost use Rattle.accounts.specs.Bounds.{FreeIn};
 
 use portions::deposit::Deposit;
 use settlement::MonthState;
-use shelf::Shelf;
+use store::Store;
 
 mod amounts;
 mod calls;
@@ -16,12 +15,11 @@ mod tells;
 // the account is.
 #[derive(Drop)]
 pub struct Billing<'a> {
-    store: Shelf<'a, Deposit>,
+    store: Store<'a, Deposit>,
     bill: u32,
     percentage: u8,
     state: MonthState,
     opened: bool,
-    ghost sound: { Sound store },
     ghost share: { percentage ≤ 100 },
     ghost few: { bill ≤ 74500000 },
     ghost free: { state ≡ Waiting → FreeIn (deposits store) },

@@ -7,35 +7,30 @@ ghost use Rattle.ledger.specs.Ledger.{opening};
 ghost use Rattle.ledger.specs.Steps.{entering, takings, drawing, turning, refunds, losses};
 ghost use Rattle.settlement.specs.Answers.{answers};
 ghost use Rattle.settlement.specs.Standing.{asks};
-ghost use Rattle.shelf.specs.Held.{room};
-ghost use Rattle.shelf.specs.Reading.{kind_of, ledger_of};
-ghost use Rattle.shelf.specs.Slots.{Accounted};
-ghost use Rattle.shelf.specs.Sound.{Sound};
+ghost use Rattle.store.specs.Held.{room};
+ghost use Rattle.store.specs.Reading.{kind_of, ledger_of};
+ghost use Rattle.store.specs.Slots.{Accounted};
 ghost use Rattle.accounts.specs.Bounds.{FreeIn};
 ghost use Rattle.accounts.specs.Slots.{SameSlots, Drawn};
 
 use faults::{AccountFault, StoreFault};
-use portions::Kind;
 use portions::rules::Rule;
-use shelf::Shelf;
+use portions::{FIRST_MONTH, Kind, LAST_MONTH};
+use store::Store;
 
-// The slots that a store of an account has to have: for a month's portion and those of the twelve months before it.
-const FEWEST_SLOTS: usize = 13;
+// The most portions that a store of an account has open: a month's and those of the twelve months before it. A store needs
+// so many slots, and a settlement so many lines for each store.
+pub(crate) const MOST_PORTIONS: usize = 13;
 
 // Refuses, as a store does, too few slots.
 pub(crate) fn enough_slots(slots: usize) -> Result<(), StoreFault>
     ensures { result ≡ (if nat_lt 12 slots then Ok tt else Err TooFewSlots) }
 {
-    if slots < FEWEST_SLOTS {
+    if slots < MOST_PORTIONS {
         return Err(StoreFault::TooFewSlots);
     }
     Ok(())
 }
-
-// The months for which an account may be opened.
-const FIRST_MONTH: u16 = 47;
-
-const LAST_MONTH: u16 = 1_199;
 
 // Refuses a month for which no account may be opened.
 pub(crate) fn month_in_range(month: u16) -> Result<(), AccountFault>
@@ -48,63 +43,49 @@ pub(crate) fn month_in_range(month: u16) -> Result<(), AccountFault>
 }
 
 // Opens a store that has the slots, for a month that can be.
-pub(crate) fn open_store<K: Kind>(store: &mut Shelf<K>, month: u16)
-    requires sound { Sound store.old }
+pub(crate) fn open_store<K: Kind>(store: &mut Store<K>, month: u16)
     requires roomy { K.Kind.life < room store.old }
     requires low { 47 ≤ month }
     requires high { month ≤ 1199 }
     ensures state { ledger_of K.Kind store.new ≡ opening month }
     ensures slots { SameSlots store.old store.new }
-    ensures sound { Sound store.new }
 {
     let _ = store.open(month);
 }
 
 // Enters an amount that is not too large, in a month that has no portion yet.
-pub(crate) fn enter_store<K: Kind>(store: &mut Shelf<K>, amount: u32, terms: K::Terms)
-    requires sound { Sound store.old }
+pub(crate) fn enter_store<K: Kind>(store: &mut Store<K>, amount: u32, terms: K::Terms)
     requires ready { (ledger_of K.Kind store.old).opened ≡ true }
     requires small { amount ≤ 100000000 }
     requires free { FreeIn (ledger_of K.Kind store.old) }
     ensures state { ledger_of K.Kind store.new ≡ entering amount terms (ledger_of K.Kind store.old) }
     ensures slots { Accounted true store.old store.new }
-    ensures sound { Sound store.new }
 {
     let _ = store.enter(amount, terms);
 }
 
 // Draws an amount that is not too large: the sum taken.
-pub(crate) fn draw_store<K: Kind, R: Rule>(store: &mut Shelf<K>, rule: &R, wanted: u32) -> u32
-    requires sound { Sound store.old }
+pub(crate) fn draw_store<K: Kind, R: Rule>(store: &mut Store<K>, rule: &R, wanted: u32) -> u32
     requires ready { (ledger_of K.Kind store.old).opened ≡ true }
     requires small { wanted ≤ 1000000000 }
     ensures used { result ≡ sum (takings (R.Rule.gives rule.now) wanted (ledger_of K.Kind store.old)) }
     ensures most { result ≤ wanted }
     ensures state { ledger_of K.Kind store.new ≡ drawing (takings (R.Rule.gives rule.now) wanted (ledger_of K.Kind store.old)) (ledger_of K.Kind store.old) }
     ensures slots { Drawn store.old store.new }
-    ensures sound { Sound store.new }
 {
-    match store.draw(rule, wanted) {
-        Ok(used) => used as u32,
-        Err(_) => 0,
-    }
+    store.draw(rule, wanted).unwrap() as u32
 }
 
 // Turns a store that is not in its last month: its refunds and losses.
-pub(crate) fn turn_store<K: Kind>(store: &mut Shelf<K>) -> (u64, u64)
-    requires sound { Sound store.old }
+pub(crate) fn turn_store<K: Kind>(store: &mut Store<K>) -> (u64, u64)
     requires ready { (ledger_of K.Kind store.old).opened ≡ true }
     requires early { (ledger_of K.Kind store.old).month < 1199 }
     ensures refunded { result.0 ≡ refunds (kind_of K.Kind) (ledger_of K.Kind store.old) }
     ensures lost { result.1 ≡ losses (kind_of K.Kind) (ledger_of K.Kind store.old) }
     ensures state { ledger_of K.Kind store.new ≡ turning (kind_of K.Kind) (ledger_of K.Kind store.old) }
     ensures slots { Accounted true store.old store.new }
-    ensures sound { Sound store.new }
     ensures free { FreeIn (ledger_of K.Kind store.new) }
     ensures small { result.0 + result.1 ≤ 120000000000 }
 {
-    match store.turn() {
-        Ok(ended) => ended,
-        Err(_) => (0, 0),
-    }
+    store.turn().unwrap()
 }

@@ -1,8 +1,11 @@
 -- Printings one after another.
-use Rattle.std.proofs.Common.{◌≡◌, ℕ, ◌+◌, ◌<◌, ◌≤◌, true, cond, List, [], ◌∷◌, ◌++◌, length, get_or, take, drop, is_ok, is_err, IfOk, IfErr, Ok, Err, string_bytes, string_len, string_capacity, Result, String, sym, refl, ap, ◌∙◌, subst, arith, lit<, OnErr}
-use Rattle.std.proofs.lemmas.List.{append-nil, append_assoc, length-append, take-append-le, same_lists, places, take_more, take-append-drop}
+use Rattle.std.proofs.Common.{◌≡◌, ℕ, ◌+◌, ◌<◌, ◌≤◌, true, List, [], ◌∷◌, ◌++◌, length, get_or, take, drop, is_err, Ok, Err, string_bytes, Result, String, sym, refl, ap, ◌∙◌, subst, arith, Some, None, Option}
+use Rattle.std.proofs.lemmas.List.{append_assoc, length-append, take-append-le, same_lists, places, take_more, take-append-drop}
+use Rattle.std.proofs.lemmas.List.{map-id}
+use Rattle.std.proofs.lemmas.Iterator.{YieldsList}
+use Rattle.std.proofs.lemmas.Iterator.Consumers.{YieldsList-end, YieldsList-so_far, YieldsList-turn}
+use Rattle.std.specs.Iterator.{Yields}
 use Rattle.answers.specs.declared.kinds.Printed.{Printed}
-use Rattle.answers.specs.declared.kinds.Printed.TheVariants.{Line, Due, Turned, Refused}
 use Rattle.answers.specs.Texts.{line_text, lines_text}
 use Rattle.answers.specs.Adds.{Added, Adds, Begun}
 
@@ -21,17 +24,6 @@ text_then before between after ps qs e h =
 take_past : {X : Type 0} (xs ys : List X) (n : ℕ) → take (length xs + n) (xs ++ ys) ≡ xs ++ take n ys
 take_past xs ys n = same_lists _ _ (grind (arith, places)) (λ k d h. grind (arith, places))
 
-line_some : (p : Printed) → 0 < length (line_text p)
-line_some (Line l) = omega arith
-line_some (Due zone due) = omega arith
-line_some (Turned refunded lost) = omega arith
-line_some (Refused place number) = omega arith
-
--- some lines are no empty text
-pub some_text : (ps : List Printed) → 0 < length ps → lines_text ps ≡ [] → ⊥
-some_text [] h e = omega arith
-some_text (p ∷ ps) h e = omega (arith, line_some p, simp length-append at (ap length e))
-
 module _ {Z : Type 0} where
   -- what is begun of some lines is begun of more
   pub begun_more : (ps qs : List Printed) (before after : String Z) → Begun ps before after → Begun (ps ++ qs) before after
@@ -44,10 +36,6 @@ module _ {Z : Type 0} where
         full = omega (arith, lines_length ps qs);
       }
 
-  -- some lines were printed, and then others
-  pub added_then : (ps qs : List Printed) (before between after : String Z) → Added ps before between → Added qs between after → Added (ps ++ qs) before after
-  added_then ps qs before between after h a = record { text = text_then _ _ _ ps qs h.text a.text; room = omega arith }
-
   -- some lines were printed, and others begun
   pub begun_then : (ps qs : List Printed) (before between after : String Z) → Added ps before between → Begun qs between after → Begun (ps ++ qs) before after
   begun_then ps qs before between after h b =
@@ -58,48 +46,27 @@ module _ {Z : Type 0} where
         full = omega (arith, lines_length ps qs, simp length-append at (ap length h.text));
       }
 
-  -- the next line of some was printed
-  pub added_next : (ps : List Printed) (i : ℕ) (p : Printed) (before between after : String Z) → i < length ps → get_or ps i p ≡ p → Added (take i ps) before between → Added (p ∷ []) between after → Added (take (i + 1) ps) before after
-  added_next ps i p before between after h e sofar a =
-      subst (λ qs. Added qs before after) (ap (λ q. take i ps ++ q ∷ []) (sym e) ∙ sym (take_more ps i p h)) (added_then (take i ps) (p ∷ []) before between after sofar a)
-
   -- the next line of some was not printed
   pub begun_next : (ps : List Printed) (i : ℕ) (p : Printed) (before between after : String Z) → i < length ps → get_or ps i p ≡ p → Added (take i ps) before between → Begun (p ∷ []) between after → Begun ps before after
   begun_next ps i p before between after h e sofar b =
       let same : (take i ps ++ p ∷ []) ++ drop (i + 1) ps ≡ ps = ap (λ q. (take i ps ++ q ∷ []) ++ drop (i + 1) ps) (sym e) ∙ (ap (λ qs. qs ++ drop (i + 1) ps) (sym (take_more ps i p h)) ∙ take-append-drop (i + 1) ps) in
       subst (λ qs. Begun qs before after) same (begun_more (take i ps ++ p ∷ []) (drop (i + 1) ps) before after (begun_then (take i ps) (p ∷ []) before between after sofar b))
 
+  module _ {S : Type 0} {steps : S → Option Printed → S → Type 0} {s : S} (t u : S) (xs : List Printed) (seen : Yields steps s xs t) where
+    -- the next of all lines was not printed
+    pub begun_at : {all : List Printed} (r : Option Printed) (p : Printed) (before between after : String Z) → r ≡ Some p → steps t r u → YieldsList steps (λ q. q) s all → Added xs before between → Begun (p ∷ []) between after → Begun all before after
+    begun_at {all = all} r p before between after is step whole sofar b =
+        let turn = YieldsList-turn whole xs t seen r u p is step in
+        let first : xs ≡ take (length xs) all = sym (map-id xs) ∙ YieldsList-so_far whole xs t seen in
+        begun_next all (length xs) p before between after turn.0 (sym turn.1) (subst (λ qs. Added qs before between) first sofar) b
+
+    -- no line is left
+    pub added_all : {all : List Printed} (r : Option Printed) (before after : String Z) → r ≡ None → steps t r u → YieldsList steps (λ q. q) s all → Added xs before after → Added all before after
+    added_all r before after is step whole sofar =
+        subst (λ qs. Added qs before after) (sym (map-id xs) ∙ (YieldsList-end whole xs t seen r u is step).0) sofar
+
   module _ {T E : Type 0} where
-    -- one line, appended
-    pub adds_one : (r : Result T E) (p : Printed) (before after : String Z) (bytes : List ℕ) → bytes ≡ line_text p → string_bytes after ≡ cond (is_ok r) (string_bytes before ++ bytes) (string_bytes before) → string_capacity before ≤ string_capacity after → OnErr r (string_capacity before < string_len before + length bytes) → Adds r (p ∷ []) before after
-    adds_one (Ok x) p before after bytes e h cap full = record { text = h ∙ ap (λ t. string_bytes before ++ t) (e ∙ sym (append-nil (line_text p))); room = cap }
-    adds_one (Err x) p before after bytes e h cap full =
-        record {
-          many = 0;
-          short = lit< tt;
-          text = h ∙ sym (append-nil (string_bytes before));
-          full = omega (arith, before.bytes.ok.0, ap length (e ∙ sym (append-nil (line_text p))));
-        }
-
-    -- some lines were printed, and then others or some of them
-    pub adds_then : (r : Result T E) (ps qs : List Printed) (before between after : String Z) → Added ps before between → Adds r qs between after → Adds r (ps ++ qs) before after
-    adds_then (Ok x) ps qs before between after h a = added_then ps qs before between after h a
-    adds_then (Err x) ps qs before between after h a = begun_then ps qs before between after h a
-
     -- at a refusal
     pub adds_begun : (r : Result T E) (ps : List Printed) (before after : String Z) → is_err r ≡ true → Begun ps before after → Adds r ps before after
     adds_begun (Ok x) ps before after e b = absurd (let z : ◌≡◌ {A = ℕ} 0 1 = cc in omega arith)
     adds_begun (Err x) ps before after e b = b
-
-    -- what the clauses of a printing say
-    pub text_of : (r : Result T E) (ps : List Printed) (before after : String Z) → Adds r ps before after → IfOk r (λ _. string_bytes after ≡ string_bytes before ++ lines_text ps)
-    text_of (Ok x) ps before after a = a.text
-    text_of (Err x) ps before after a = tt
-
-    pub wanting_of : (r : Result T E) (ps : List Printed) (before after : String Z) → Adds r ps before after → IfErr r (λ _. lines_text ps ≡ [] → ⊥)
-    wanting_of (Ok x) ps before after a = tt
-    wanting_of (Err x) ps before after a = some_text ps (omega (arith, a.short))
-
-    pub begun_of : (r : Result T E) (ps : List Printed) (before after : String Z) → Adds r ps before after → IfErr r (λ _. Begun ps before after)
-    begun_of (Ok x) ps before after a = tt
-    begun_of (Err x) ps before after a = a

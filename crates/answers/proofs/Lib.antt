@@ -1,4 +1,2 @@
-pub mod Fields
-pub mod Spelt
 pub mod Adds
 pub mod Said

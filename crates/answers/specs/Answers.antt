@@ -1,6 +1,7 @@
 -- What is printed for an answer and for a refusal.
-use Rattle.std.specs.Prelude.{ℕ, List, [], ◌∷◌, ◌++◌, map}
-use Rattle.settlement.specs.declared.states.Zones.{Zones}
+use Rattle.std.specs.Prelude.{ℕ, List, [], ◌∷◌, ◌++◌, map, Some, None}
+use Rattle.hours.specs.declared.zones.Zone.TheVariants.{First, Second, Third}
+use Rattle.settlement.specs.declared.zones.Zones.{Zones}
 use Rattle.answers.specs.declared.kinds.Printed.{Printed}
 use Rattle.answers.specs.declared.kinds.Printed.TheVariants.{Line, Due, Turned, Refused}
 use Rattle.answers.specs.Said.{Said, nothing, settled, paid, turned}
@@ -8,11 +9,11 @@ use Rattle.answers.specs.Texts.{line_text, lines_text}
 
 -- what is due in each zone
 abbrev pub dues : Zones ℕ → List Printed
-dues due = Due 1 due.one ∷ Due 2 due.two ∷ Due 3 due.three ∷ []
+dues due = Due (Some First) due.one ∷ Due (Some Second) due.two ∷ Due (Some Third) due.three ∷ []
 
 -- what is due of a bill
 abbrev pub bill_due : ℕ → Printed
-bill_due due = Due 0 due
+bill_due due = Due None due
 
 -- the lines that are printed for an answer, in their order
 abbrev pub printed : Said → List Printed

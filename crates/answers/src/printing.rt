@@ -6,37 +6,24 @@ ghost use Rattle.answers.specs.Answers.{printed, dues, bill_due, said_text, refu
 ghost use Rattle.answers.specs.Adds.{Adds, Begun};
 
 use crate::kinds::{Answer, Printed};
-use crate::spelling::put_line;
+use hours::Zone;
 use settlement::{Line, Payment, Settlement};
 use std::alloc::AllocError;
-use std::str::from_utf8_unchecked;
 
 // Adds one printed line to the text.
 fn print_line(out: &mut String, line: Printed) -> Result<(), AllocError>
     ensures { Adds result (line ∷ []) out.old out.new }
 {
-    let mut text = [0u8; 96];
-    text[95] = b'\n';
-    let start = put_line(&mut text, line);
-    out.push_str(unsafe { from_utf8_unchecked(&text[start..]) })
+    out.push_str(line.text().as_str())
 }
 
-// Adds the lines of a settlement to the text.
-fn print_lines(out: &mut String, lines: &[Line]) -> Result<(), AllocError>
-    ensures { Adds result (map line_of lines.now) out.old out.new }
+// Adds the lines of a settlement and what it left due to the text.
+fn print_lines(out: &mut String, lines: &[Line], dues: &[Printed]) -> Result<(), AllocError>
+    ensures { Adds result (map line_of lines.now ++ dues.now) out.old out.new }
 {
-    for line in lines {
-        print_line(out, Printed::Line(*line))?;
-    }
-    Ok(())
-}
-
-// Adds printed lines to the text.
-fn print_all(out: &mut String, all: &[Printed]) -> Result<(), AllocError>
-    ensures { Adds result all.now out.old out.new }
-{
-    for line in all {
-        print_line(out, *line)?;
+    let settled = lines.iter().map(|line| Printed::Line(*line));
+    for line in settled.chain(dues.iter().copied()) {
+        print_line(out, line)?;
     }
     Ok(())
 }
@@ -45,32 +32,17 @@ fn print_all(out: &mut String, all: &[Printed]) -> Result<(), AllocError>
 fn first_of(lines: &[Line], many: usize) -> &[Line]
     ensures { result.now ≡ take many lines.now }
 {
-    if many < lines.len() {
-        &lines[..many]
-    } else {
-        lines
-    }
+    lines.get(..many).unwrap_or(lines)
 }
 
 // What a settlement left due in each zone, as lines.
 fn dues_of(settlement: &Settlement) -> [Printed; 3]
     ensures { result ≡ dues settlement.now.due }
 {
-    let due = settlement.due;
-    [
-        Printed::Due {
-            zone: 1,
-            due: due.one,
-        },
-        Printed::Due {
-            zone: 2,
-            due: due.two,
-        },
-        Printed::Due {
-            zone: 3,
-            due: due.three,
-        },
-    ]
+    [Zone::First, Zone::Second, Zone::Third].map(|zone| Printed::Due {
+        zone: Some(zone),
+        due: *settlement.due.of(zone),
+    })
 }
 
 // What a bill left due, as a line.
@@ -78,7 +50,7 @@ fn due_of(payment: &Payment) -> Printed
     ensures { result ≡ bill_due payment.now.due }
 {
     Printed::Due {
-        zone: 0,
+        zone: None,
         due: payment.due,
     }
 }
@@ -92,12 +64,14 @@ pub fn print_answer(out: &mut String, answer: &Answer, lines: &[Line]) -> Result
     match *answer {
         Answer::Nothing => Ok(()),
         Answer::Settled(settlement) => {
-            print_lines(out, first_of(lines, settlement.lines))?;
-            print_all(out, &dues_of(&settlement))
+            print_lines(
+                out,
+                first_of(lines, settlement.lines),
+                &dues_of(&settlement),
+            )
         }
         Answer::Paid(payment) => {
-            print_lines(out, first_of(lines, payment.lines))?;
-            print_line(out, due_of(&payment))
+            print_lines(out, first_of(lines, payment.lines), &[due_of(&payment)])
         }
         Answer::Turned { refunded, lost } => print_line(out, Printed::Turned { refunded, lost }),
     }

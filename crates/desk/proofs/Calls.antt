@@ -15,13 +15,13 @@ use Rattle.answers.specs.Said.Said.{nothing, settled, paid}
 use Rattle.settlement.specs.declared.answers.Settlement.{Settlement}
 use Rattle.settlement.specs.declared.answers.Payment.{Payment}
 use Rattle.portions.specs.declared.Slot.{Slot}
-use Rattle.shelf.specs.Held.{room}
+use Rattle.store.specs.Held.{room}
 use Rattle.settlement.specs.declared.answers.Line.{Line}
-use Rattle.settlement.specs.declared.states.Zones.{Zones}
+use Rattle.settlement.specs.declared.zones.Zones.{Zones}
 use Rattle.settlement.specs.Lines.{written}
 use Rattle.settlement.specs.Metering.{MeterAccount}
 use Rattle.settlement.specs.Billing.{BillAccount}
-use Rattle.accounts.specs.Means.{EnergyShelf, fewest}
+use Rattle.accounts.specs.Means.{EnergyStore, fewest}
 use Rattle.accounts.specs.Slots.{EachSame, EachAccounted}
 use Rattle.desk.specs.declared.account_calls.Sort.{Sort}
 use Rattle.desk.specs.declared.account_calls.Sort.TheVariants.{Metering, Billing}
@@ -74,14 +74,14 @@ pub on_none : (does : Account → Outcome Account) (w : Option Sort) (m m' : Met
 on_none does w m m' b b' r e came = subst (λ (v : Option Sort). AccountCame (does (account_in v m b)) r (account_in v m' b')) (sym e) came
 
 -- a call on the stores leaves as many slots
-pub same_fewest : (accepted : Bool) (s s' : Zones EnergyShelf) → EachAccounted accepted s s' → fewest s' ≡ fewest s
+pub same_fewest : (accepted : Bool) (s s' : Zones EnergyStore) → EachAccounted accepted s s' → fewest s' ≡ fewest s
 same_fewest accepted s s' a =
     ap (λ n. min (min n (room s'.two)) (room s'.three)) a.0.same_room
     ∙ ap (λ n. min (min (room s.one) n) (room s'.three)) a.1.same_room
     ∙ ap (λ n. min (min (room s.one) (room s.two)) n) a.2.same_room
 
 -- an opening does too
-pub opened_fewest : (s s' : Zones EnergyShelf) → EachSame s s' → fewest s' ≡ fewest s
+pub opened_fewest : (s s' : Zones EnergyStore) → EachSame s s' → fewest s' ≡ fewest s
 opened_fewest s s' a =
     ap (λ (l : List Slot). min (min (length l) (room s'.two)) (room s'.three)) a.0.same
     ∙ ap (λ (l : List Slot). min (min (room s.one) (length l)) (room s'.three)) a.1.same

@@ -13,7 +13,7 @@ use Rattle.hours.specs.declared.prices.HourPrices.{HourPrices}
 use Rattle.hours.specs.declared.prices.MonthPrice.{MonthPrice}
 use Rattle.records.specs.Records.{Rec}
 use Rattle.records.specs.Records.Rec.{opens_metering, opens_billing, opens_book, gives_month_price, gives_hour_prices, reading, finish, settle, turn}
-use Rattle.shelf.specs.Held.{room}
+use Rattle.store.specs.Held.{room}
 use Rattle.accounts.specs.Means.{fewest}
 use Rattle.accounts.specs.Metered as metering
 use Rattle.accounts.specs.Billed as billing

@@ -3,7 +3,7 @@ ghost use Rattle.std.specs.Prelude.{◌≡◌, [], length, drop};
 ghost use Rattle.accounts.specs.Means.{fewest};
 ghost use Rattle.accounts.specs.Metered.{meter_opening};
 ghost use Rattle.accounts.specs.Billed.{bill_opening};
-ghost use Rattle.shelf.specs.Held.{room};
+ghost use Rattle.store.specs.Held.{room};
 ghost use Rattle.faults.specs.declared.ProgramFault.TheVariants.{InAccount};
 ghost use Rattle.desk.specs.State.Account.{none};
 ghost use Rattle.desk.specs.Accounts.{account_settled, account_turned, billing_opened, metering_opened, own_month, sums_entered};

@@ -3,7 +3,7 @@ ghost use Rattle.std.specs.Prelude.{◌≡◌, Option, Result, length, drop};
 ghost use Rattle.std.specs.Fn.{FnOnceReturnsAtMut};
 ghost use Rattle.faults.specs.declared.BookFault.{BookFault};
 ghost use Rattle.accounts.specs.Means.{fewest};
-ghost use Rattle.shelf.specs.Held.{room};
+ghost use Rattle.store.specs.Held.{room};
 ghost use Rattle.records.specs.Records.{record_model};
 ghost use Rattle.desk.specs.Accounts.{own_month};
 ghost use Rattle.desk.specs.Books.{each_in_range, hour_refusal, price_in_range, price_refusal, with_next_hour, with_hourly, with_monthly};

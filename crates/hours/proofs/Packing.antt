@@ -5,7 +5,8 @@ use Rattle.std.proofs.lemmas.List.{at_drop_all}
 use Rattle.std.proofs.lemmas.Bool.Decides.{nat_tests}
 use Rattle.hours.specs.Every.{every}
 use Rattle.hours.proofs.Each.{both, every_at, every_drop}
-use Rattle.hours.specs.Marks.{Zone, names_zone, each_zone, packed, mark_in_row}
+use Rattle.hours.specs.Marks.{Zone, each_zone, packed, mark_in_row}
+use Rattle.hours.specs.Zones.{names_zone}
 
 -- the packing of a row from mark i on
 pub packed_from : (row : List ℕ) (i : ℕ) → i < length row → packed (drop i row) ≡ packed (drop (i + 1) row) * 4 + get_or row i 0

@@ -1,11 +1,8 @@
 -- Zone marks: the zone of each clock hour, 24 of a working day and 24 of a Saturday or Sunday.
-use Rattle.std.specs.Prelude.{ℕ, ◌+◌, ◌*◌, ◌/◌, ◌%◌, ◌^◌, ◌≤◌, Bool, cond, ◌&&◌, List, [], ◌∷◌, nat_le, slice_index, slice_index_or}
+use Rattle.std.specs.Prelude.{ℕ, ◌+◌, ◌*◌, ◌/◌, ◌%◌, ◌^◌, ◌≤◌, Bool, cond, List, [], ◌∷◌, slice_index, slice_index_or}
 use Rattle.calendar.specs.Hour.{hour_of_place}
 use Rattle.hours.specs.Every.{every}
-
--- a mark names one of the zones 1, 2 and 3
-abbrev pub names_zone : ℕ → Bool
-names_zone n = nat_le 1 n && nat_le n 3
+use Rattle.hours.specs.Zones.{names_zone}
 
 -- every mark of a row does
 abbrev pub each_zone : List ℕ → Bool

@@ -6,9 +6,11 @@ mod marks;
 mod prices;
 mod sums;
 mod whole;
+mod zones;
 
 pub use book::{Book, Reading, Tally, Terms, Unfinished};
 pub use marks::all_zones;
 pub use prices::{HourPrices, MonthPrice, PriceSource, StandIn};
 pub use sums::{Energies, MonthSums, Totals};
 pub use whole::{MonthRefused, sum_month};
+pub use zones::Zone;

@@ -1,6 +1,7 @@
 // Zone marks, kept packed: two bits for each clock hour.
 ghost use Rattle.std.specs.Prelude.{◌≡◌, ℕ, ◌<◌, true, slice_index};
-ghost use Rattle.hours.specs.Marks.{Zone, each_zone, names_zone, mark_in_row, packed};
+ghost use Rattle.hours.specs.Marks.{Zone, each_zone, mark_in_row, packed};
+ghost use Rattle.hours.specs.Zones.{names_zone};
 
 fn is_zone(mark: u8) -> bool
     ensures { result ≡ names_zone mark }

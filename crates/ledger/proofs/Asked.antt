@@ -1,6 +1,6 @@
 -- What an accepted call met, and what a refused one failed.
-use Rattle.std.proofs.Common.{◌≡◌, ℕ, ◌<◌, ◌≤◌, Bool, true, false, not, ltb, leb, ◌⊎◌, Some, None, Option, refl, inl, inr, arith}
-use Rattle.std.proofs.lemmas.Bool.{leb-true, ltb-true}
+use Rattle.std.proofs.Common.{◌≡◌, ℕ, ◌<◌, ◌≤◌, Bool, true, false, not, ltb, leb, ◌⊎◌, Some, None, Option, refl, inl, inr}
+use Rattle.std.proofs.lemmas.Bool.{leb-true, ltb-true, not-true}
 use Rattle.faults.specs.declared.StoreFault.{StoreFault}
 use Rattle.ledger.specs.Kinds.{Kind}
 use Rattle.ledger.specs.Ledger.{Ledger, has}
@@ -9,25 +9,12 @@ use Rattle.ledger.specs.Calls.{asks, open_refusal, enter_refusal, draw_refusal, 
 -- an accepted call met all that it was asked
 pub asked : (b : Bool) (e : StoreFault) (o : Option StoreFault) → asks b e o ≡ None → (b ≡ true) × (o ≡ None)
 asked true e o h = (refl, h)
-asked false e o h = let z : ◌≡◌ {A = ℕ} 0 1 = cc in absurd (omega arith)
+asked false e o h = absurd (cc)
 
 -- a refused one failed this, or something later
 pub failed : (b : Bool) (e f : StoreFault) (o : Option StoreFault) → asks b e o ≡ Some f → ((f ≡ e) × (b ≡ false)) ⊎ ((b ≡ true) × (o ≡ Some f))
 failed true e f o h = inr (refl, h)
 failed false e f o h = inl (cc, refl)
-
--- no call is both
-pub never : (f : StoreFault) (P : Type 0) → ◌≡◌ {A = Option StoreFault} None (Some f) → P
-never f P e = let z : ◌≡◌ {A = ℕ} 0 1 = cc in absurd (omega arith)
-
--- a test by its opposite
-pub not_has : (b : Bool) → not b ≡ true → b ≡ false
-not_has true h = let z : ◌≡◌ {A = ℕ} 0 1 = cc in absurd (omega arith)
-not_has false h = refl
-
-pub does_have : (b : Bool) → not b ≡ false → b ≡ true
-does_have true h = refl
-does_have false h = let z : ◌≡◌ {A = ℕ} 0 1 = cc in absurd (omega arith)
 
 -- what an accepted opening met
 pub record OpenMet {T : Type 0} (kind : Kind T) (slots month : ℕ) : Type 0 where
@@ -62,7 +49,7 @@ module _ {T : Type 0} where
   enter_met amount s e =
       let a = asked s.opened _ _ e in
       let b = asked (leb amount 100000000) _ _ a.1 in
-      record { is_open = a.0; small = leb-true amount 100000000 b.0; free = not_has (has s.month s.portions) (asked (not (has s.month s.portions)) _ None b.1).0 }
+      record { is_open = a.0; small = leb-true amount 100000000 b.0; free = not-true (has s.month s.portions) (asked (not (has s.month s.portions)) _ None b.1).0 }
 
   pub draw_met : (wanted : ℕ) (s : Ledger T) → draw_refusal wanted s ≡ None → DrawMet wanted s
   draw_met wanted s e =

@@ -18,6 +18,7 @@ use Rattle.ledger.specs.Ways.{Way, over_months, taken, way_used, FairDraw, Fair,
 use Rattle.ledger.specs.Best.{WentOldestFirst, NoBetter}
 use Rattle.ledger.specs.Service.{left_from}
 use Rattle.ledger.proofs.Lists.{amounts_left_in, sum_lefts, UpTo, stays_gt}
+use Rattle.ledger.proofs.Own.{received_sum, taken_sum}
 use Rattle.ledger.proofs.Store.{counts, sound}
 use Rattle.ledger.proofs.Sums.{sum_zero, sum_le, sum-+, sum_one}
 
@@ -164,32 +165,12 @@ module _ {T : Type 0} (kind : Kind T) (m₀ : ℕ) (way : Way) where
   younger (refused call fault ∷ h) s had went fair m =
       subst (λ (x : Ledger T). way_used way h + way_left_from kind m₀ way h m ≤ Used h + left_from m x.portions) (sym had.2.1) (younger h had.0 had.1 went fair m)
 
-  -- what the portions of all months received is what was entered
-  received_all : (h : History T) (s : Ledger T) → Had kind m₀ h s → Entered h ≤ over_months (received m₀ h)
-  received_all [] s had = omega arith
-  received_all (entered amount terms ∷ h) s had =
-      let ok = sound kind m₀ h had.0 had.1 in
-      let one = sum_one 1200 (reached m₀ h) amount (omega (arith, ok.month_is, ok.month_le)) in
-      let both = sum-+ 1200 (received m₀ h) (λ k. cond (eqb (reached m₀ h) k) amount 0) in
-      omega (arith, received_all h had.0 had.1, one, both)
-  received_all (drew rule wanted answer ∷ h) s had = received_all h had.0 had.1
-  received_all (turned refunded lost ∷ h) s had = received_all h had.0 had.1
-  received_all (refused call fault ∷ h) s had = received_all h had.0 had.1
-
-  -- what a way took from the portions of all months is what it used
-  taken_all : (h : History T) → over_months (taken way h) ≤ way_used way h
-  taken_all [] = omega (arith, sum_zero 1200)
-  taken_all (entered amount terms ∷ h) = taken_all h
-  taken_all (drew rule wanted answer ∷ h) = omega (arith, taken_all h, sum-+ 1200 (taken way h) (way (length h)))
-  taken_all (turned refunded lost ∷ h) = taken_all h
-  taken_all (refused call fault ∷ h) = taken_all h
-
   way_balance : (h : History T) (s : Ledger T) → Had kind m₀ h s → Entered h ≤ way_used way h + way_run_out kind m₀ way h + way_left_from kind m₀ way h 0
   way_balance h s had =
       let ended : ℕ → ℕ = λ k. cond (ltb (k + kind.life) (reached m₀ h)) (remains m₀ way h k) 0 in
       let open' : ℕ → ℕ = λ k. cond (leb 0 k && leb (reached m₀ h) (k + kind.life)) (remains m₀ way h k) 0 in
       let each = sum_le 1200 (received m₀ h) (λ k. (taken way h k + ended k) + open' k) (λ k. grind (arith, nat_tests)) in
-      omega (arith, each, sum-+ 1200 (λ k. taken way h k + ended k) open', sum-+ 1200 (taken way h) ended, received_all h s had, taken_all h)
+      omega (arith, each, sum-+ 1200 (λ k. taken way h k + ended k) open', sum-+ 1200 (taken way h) ended, received_sum kind m₀ h s had, taken_sum way h)
 
 module _ {T : Type 0} (kind : Kind T) (law : LawfulKind kind) (m₀ : ℕ) where
   pub oldest_best : (h : History T) (s : Ledger T) → Had kind m₀ h s → WentOldestFirst kind m₀ h → (way : Way) → Fair kind m₀ way h → NoBetter kind m₀ h way

@@ -1,24 +1,23 @@
 -- Lemmas on totals, takings and months of lists of portions.
 use Rattle.std.proofs.Common.{◌≡◌, ℕ, suc, ◌+◌, ◌<◌, ◌≤◌, Bool, true, false, cond, not, eqb, ltb, ◌⊎◌, List, [], ◌∷◌, ◌++◌, map, length, get_or, filter, sym, refl, ap, subst, inl, inr, arith}
-use Rattle.std.proofs.lemmas.Bool.{ltb-true, ltb-false, eqb-false, le-ltb}
+use Rattle.std.proofs.lemmas.Bool.{ltb-true, ltb-false, eqb-false, le-ltb, not-true, not-false}
 use Rattle.portions.specs.Sums.{sum}
 use Rattle.portions.specs.Portions.{Portion}
 use Rattle.ledger.specs.Rules.{Rule, LawfulRule}
 use Rattle.ledger.specs.Ledger.{left_in, has}
 use Rattle.ledger.specs.Steps.{taking, stays_in}
 use Rattle.ledger.specs.Told.{Tells, RisingFrom}
-use Rattle.ledger.proofs.Asked.{not_has, does_have}
 
 has_parts : (b c : Bool) → cond b true c ≡ false → (b ≡ false) × (c ≡ false)
-has_parts true c h = let z : ◌≡◌ {A = ℕ} 0 1 = cc in absurd (omega arith)
+has_parts true c h = absurd (cc)
 has_parts false c h = (refl, h)
 
 -- the test whether a portion stays, in numbers
 pub stays_le : (x m : ℕ) → not (ltb x m) ≡ true → m ≤ x
-stays_le x m e = ltb-false x m (not_has (ltb x m) e)
+stays_le x m e = ltb-false x m (not-true (ltb x m) e)
 
 pub stays_gt : (x m : ℕ) → not (ltb x m) ≡ false → x < m
-stays_gt x m e = ltb-true x m (does_have (ltb x m) e)
+stays_gt x m e = ltb-true x m (not-false (ltb x m) e)
 
 pub le_stays : (x m : ℕ) → m ≤ x → not (ltb x m) ≡ true
 le_stays x m le = ap not (le-ltb x m le)

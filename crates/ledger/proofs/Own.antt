@@ -8,13 +8,14 @@ use Rattle.portions.specs.Totals.{total-++}
 use Rattle.ledger.specs.Kinds.{Kind, LawfulKind}
 use Rattle.ledger.specs.Rules.{Rule, LawfulRule}
 use Rattle.ledger.specs.Ledger.{Ledger, left_in, lefts}
-use Rattle.ledger.specs.Steps.{entering, taking, takings, drawing, stays_in, turning}
+use Rattle.ledger.specs.Steps.{taking, takings, stays_in}
 use Rattle.ledger.specs.History.{History, Had, reached}
 use Rattle.ledger.specs.History.Event.{entered, drew, turned, refused}
 use Rattle.ledger.specs.Totals.{Entered, Used, Refunded, Lost, received}
 use Rattle.ledger.specs.Told.{Tells}
 use Rattle.ledger.specs.Ways.{Way, over_months, taken, way_used, Fair, remains, way_run_out, way_left_from}
 use Rattle.ledger.specs.Service.{taken_from, Own, left_from, ServesFairly}
+use Rattle.ledger.proofs.Runs.{history_decides}
 use Rattle.ledger.proofs.Lists.{Within, within, amounts_left_in, UpTo, stays_le, stays_gt}
 use Rattle.ledger.proofs.Store.{counts, sound, exact}
 use Rattle.ledger.proofs.Sums.{sum_zero, sum_same, sum-+, sum_one}
@@ -77,19 +78,15 @@ module _ {T : Type 0} where
       go true e l rest = (p.entered, p.terms, inl (eqb-true p.month k e, refl, refl))
       go false e l rest = let r = rest (omega arith) in (r.0, r.1, inr r.2)
 
-module _ {T : Type 0} (kind : Kind T) (m₀ : ℕ) where
-  -- the history decides where the store is
-  pub had_same : (h : History T) (s t : Ledger T) → Had kind m₀ h s → Had kind m₀ h t → s ≡ t
-  had_same [] s t a b = a.2 ∙ sym b.2
-  had_same (entered amount terms ∷ h) s t a b =
-      a.2.1 ∙ (ap (λ (x : Ledger T). entering amount terms x) (had_same h a.0 b.0 a.1 b.1) ∙ sym b.2.1)
-  had_same (drew rule wanted answer ∷ h) s t a b =
-      a.2.2 ∙ (ap (λ (x : Ledger T). drawing (takings rule wanted x) x) (had_same h a.0 b.0 a.1 b.1) ∙ sym b.2.2)
-  had_same (turned refunded lost ∷ h) s t a b =
-      a.2.3 ∙ (ap (λ (x : Ledger T). turning kind x) (had_same h a.0 b.0 a.1 b.1) ∙ sym b.2.3)
-  had_same (refused call fault ∷ h) s t a b =
-      a.2.1 ∙ (had_same h a.0 b.0 a.1 b.1 ∙ sym b.2.1)
+-- what a way took from the portions of all months is what it used
+pub taken_sum : {T : Type 0} (way : Way) (h : History T) → over_months (taken way h) ≡ way_used way h
+taken_sum way [] = sum_zero 1200
+taken_sum way (entered amount terms ∷ h) = taken_sum way h
+taken_sum way (drew rule wanted answer ∷ h) = omega (arith, taken_sum way h, sum-+ 1200 (taken way h) (way (length h)))
+taken_sum way (turned refunded lost ∷ h) = taken_sum way h
+taken_sum way (refused call fault ∷ h) = taken_sum way h
 
+module _ {T : Type 0} (kind : Kind T) (m₀ : ℕ) where
   -- a way is the store's own if it agrees with one at the places of the history
   own_like : (v w : Way) (h : History T) → ((n : ℕ) → n < length h → (k : ℕ) → w n k ≡ v n k) → Own kind m₀ v h → Own kind m₀ w h
   own_like v w [] same own = tt
@@ -111,12 +108,24 @@ module _ {T : Type 0} (kind : Kind T) (m₀ : ℕ) where
         (
           (λ s' had' k.
               let at : cond (eqb (length h) (length h)) (here k) (ih.0 (length h) k) ≡ here k = grind (arith, nat_tests) in
-              at ∙ ap (λ (x : Ledger T). taken_from k (takings rule wanted x) x.portions) (had_same h was s' had.1 had')),
+              at ∙ ap (λ (x : Ledger T). taken_from k (takings rule wanted x) x.portions) (history_decides kind m₀ h was s' had.1 had')),
           own_like ih.0 way h (λ n lt k. let z : ℕ = here k in let old : cond (eqb n (length h)) z (ih.0 n k) ≡ ih.0 n k = grind (arith, nat_tests) in old) ih.1,
         ),
       )
   own_exists (turned refunded lost ∷ h) s had = own_exists h had.0 had.1
   own_exists (refused call fault ∷ h) s had = own_exists h had.0 had.1
+
+  -- what the portions of all months received is what was entered
+  pub received_sum : (h : History T) (s : Ledger T) → Had kind m₀ h s → over_months (received m₀ h) ≡ Entered h
+  received_sum [] s had = sum_zero 1200
+  received_sum (entered amount terms ∷ h) s had =
+      let ok = sound kind m₀ h had.0 had.1 in
+      let one = sum_one 1200 (reached m₀ h) amount (omega (arith, ok.month_is, ok.month_le)) in
+      let both = sum-+ 1200 (received m₀ h) (λ k. cond (eqb (reached m₀ h) k) amount 0) in
+      omega (arith, received_sum h had.0 had.1, one, both)
+  received_sum (drew rule wanted answer ∷ h) s had = received_sum h had.0 had.1
+  received_sum (turned refunded lost ∷ h) s had = received_sum h had.0 had.1
+  received_sum (refused call fault ∷ h) s had = received_sum h had.0 had.1
 
   module _ (way : Way) where
     -- what the way leaves of an open portion is what the store tells as left
@@ -202,24 +211,6 @@ module _ {T : Type 0} (kind : Kind T) (m₀ : ℕ) where
         let goal : cond (leb m k && leb (reached m₀ h) (k + kind.life)) (remains m₀ way h k) 0 ≡ cond (leb m k) in' 0 = grind (arith, nat_tests) in goal)
         ∙ sum_left_at m s.portions s.month (omega (arith, ok.month_le)) ok.up_to
 
-    received_sum : (h : History T) (s : Ledger T) → Had kind m₀ h s → over_months (received m₀ h) ≡ Entered h
-    received_sum [] s had = sum_zero 1200
-    received_sum (entered amount terms ∷ h) s had =
-        let ok = sound kind m₀ h had.0 had.1 in
-        let one = sum_one 1200 (reached m₀ h) amount (omega (arith, ok.month_is, ok.month_le)) in
-        let both = sum-+ 1200 (received m₀ h) (λ k. cond (eqb (reached m₀ h) k) amount 0) in
-        omega (arith, received_sum h had.0 had.1, one, both)
-    received_sum (drew rule wanted answer ∷ h) s had = received_sum h had.0 had.1
-    received_sum (turned refunded lost ∷ h) s had = received_sum h had.0 had.1
-    received_sum (refused call fault ∷ h) s had = received_sum h had.0 had.1
-
-    taken_sum : (h : History T) → over_months (taken way h) ≡ way_used way h
-    taken_sum [] = sum_zero 1200
-    taken_sum (entered amount terms ∷ h) = taken_sum h
-    taken_sum (drew rule wanted answer ∷ h) = omega (arith, taken_sum h, sum-+ 1200 (taken way h) (way (length h)))
-    taken_sum (turned refunded lost ∷ h) = taken_sum h
-    taken_sum (refused call fault ∷ h) = taken_sum h
-
     own_run_out : LawfulKind kind → (h : History T) (s : Ledger T) → Had kind m₀ h s → Own kind m₀ way h → way_run_out kind m₀ way h ≡ Refunded h + Lost h
     own_run_out law h s had own =
         let ended : ℕ → ℕ = λ k. cond (ltb (k + kind.life) (reached m₀ h)) (remains m₀ way h k) 0 in
@@ -233,7 +224,7 @@ module _ {T : Type 0} (kind : Kind T) (m₀ : ℕ) where
           sum-+ 1200 (λ k. taken way h k + ended k) open',
           sum-+ 1200 (taken way h) ended,
           received_sum h s had,
-          taken_sum h,
+          taken_sum way h,
           own_used h s had own,
           own_left h s had own 0,
           all_from s.portions,

@@ -1,6 +1,6 @@
 -- Calls are refused as they should be, in the words of the history.
 use Rattle.std.proofs.Common.{◌≡◌, ℕ, Bool, true, false, cond, not, eqb, ltb, leb, List, [], ◌∷◌, Some, None, Option, refl, ap, ◌∙◌, inl, inr, arith}
-use Rattle.std.proofs.lemmas.Bool.{leb-true, leb-false, ltb-true, ltb-false, eqb-true, eq-eqb, both_ways}
+use Rattle.std.proofs.lemmas.Bool.{leb-true, leb-false, ltb-true, ltb-false, eqb-true, eq-eqb, both_ways, not-false}
 use Rattle.faults.specs.declared.StoreFault.{StoreFault}
 use Rattle.faults.specs.Numbers.{store_number}
 use Rattle.portions.specs.Portions.{Portion}
@@ -12,7 +12,7 @@ use Rattle.ledger.specs.History.{Event, History, Had, reached}
 use Rattle.ledger.specs.History.Event.{entered, drew, turned, refused}
 use Rattle.ledger.specs.Told.{Tells}
 use Rattle.ledger.specs.Refusals.{HasPortion, Rightly, AllRightly}
-use Rattle.ledger.proofs.Asked.{failed, never, does_have, enter_met, draw_met, turn_met}
+use Rattle.ledger.proofs.Asked.{failed, enter_met, draw_met, turn_met}
 use Rattle.ledger.proofs.Store.{sound, exact}
 
 -- where the store is open, a refusal is for what else is asked
@@ -21,7 +21,7 @@ still b e f o y h = elim (failed b e f o h) [ inl x ↦ absurd (both_ways b x.1 
 
 module _ {T : Type 0} where
   has_tells : (k : ℕ) (ps : List (Portion T)) → has k ps ≡ true → (a : ℕ) × (t : T) × Tells ps k a t
-  has_tells k [] h = let z : ◌≡◌ {A = ℕ} 0 1 = cc in absurd (omega arith)
+  has_tells k [] h = absurd (cc)
   has_tells k (p ∷ ps) h = go (eqb p.month k) refl h (λ e. has_tells k ps e)
     where
       go : (b : Bool) → eqb p.month k ≡ b → cond b true (has k ps) ≡ true → (has k ps ≡ true → (a : ℕ) × (t : T) × Tells ps k a t) → (a : ℕ) × (t : T) × Tells (p ∷ ps) k a t
@@ -65,7 +65,7 @@ module _ {T : Type 0} where
           | inl y ↦ inr (ap store_number y.0, ltb-true kind.life slots x.0, inl (leb-false 47 month y.1))
           | inr y ↦ elim (failed (leb month 1199) _ fault None y.1) [
             | inl z ↦ inr (ap store_number z.0, ltb-true kind.life slots x.0, inr (leb-false month 1199 z.1))
-            | inr z ↦ never fault _ z.1
+            | inr z ↦ absurd (cc)
           ]
         ]
       ]
@@ -74,17 +74,17 @@ module _ {T : Type 0} where
       elim (failed (leb amount 100000000) _ fault _ (still was.opened _ fault _ (sound kind m₀ h was had.1).is_open had.2.0)) [
         | inl x ↦ inl (ap store_number x.0, leb-false amount 100000000 x.1)
         | inr x ↦ elim (failed (not (has was.month was.portions)) _ fault None x.1) [
-          | inl y ↦ inr (ap store_number y.0, leb-true amount 100000000 x.0, portion_since kind m₀ h was had.1 (does_have (has was.month was.portions) y.1))
-          | inr y ↦ never fault _ y.1
+          | inl y ↦ inr (ap store_number y.0, leb-true amount 100000000 x.0, portion_since kind m₀ h was had.1 (not-false (has was.month was.portions) y.1))
+          | inr y ↦ absurd (cc)
         ]
       ]
   refuses_rightly kind m₀ h (refused (draw rule wanted) fault) s had =
       elim (failed (leb wanted 1000000000) _ fault None (still had.0.opened _ fault _ (sound kind m₀ h had.0 had.1).is_open had.2.0))
-      [ inl x ↦ (ap store_number x.0, leb-false wanted 1000000000 x.1) | inr x ↦ never fault _ x.1 ]
+      [ inl x ↦ (ap store_number x.0, leb-false wanted 1000000000 x.1) | inr x ↦ absurd (cc) ]
   refuses_rightly kind m₀ h (refused turn fault) s had =
       let ok = sound kind m₀ h had.0 had.1 in
       elim (failed (ltb had.0.month 1199) _ fault None (still had.0.opened _ fault _ ok.is_open had.2.0))
-      [ inl x ↦ (ap store_number x.0, omega (arith, ltb-false had.0.month 1199 x.1, ok.month_is, ok.month_le)) | inr x ↦ never fault _ x.1 ]
+      [ inl x ↦ (ap store_number x.0, omega (arith, ltb-false had.0.month 1199 x.1, ok.month_is, ok.month_le)) | inr x ↦ absurd (cc) ]
 
   pub all_rightly : (kind : Kind T) (m₀ : ℕ) (h : History T) (s : Ledger T) → Had kind m₀ h s → AllRightly kind m₀ h
   all_rightly kind m₀ [] s had = tt

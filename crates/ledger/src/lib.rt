@@ -10,22 +10,16 @@ ghost use Rattle.ledger.specs.Runs.{CallsHaveHistories, HistoriesDecide};
 ghost use Rattle.ledger.specs.Promises.{Promised};
 
 // A store of a lawful kind keeps its promise after every history.
-pub fn keeps_promise<T>() -> u8
+pub fn keeps_promise<T>()
     ensures { (kind : Kind T) → LawfulKind kind → (m : ℕ) (h : History T) (s : Ledger T) → Had kind m h s → Promised kind m h s }
-{
-    0
-}
+{}
 
 // Every list of calls after an opening has a history.
-pub fn calls_have_histories<T>() -> u8
+pub fn calls_have_histories<T>()
     ensures { (kind : Kind T) → CallsHaveHistories kind }
-{
-    0
-}
+{}
 
 // A history decides where the store stands.
-pub fn histories_decide<T>() -> u8
+pub fn histories_decide<T>()
     ensures { (kind : Kind T) → HistoriesDecide kind }
-{
-    0
-}
+{}

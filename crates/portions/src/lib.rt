@@ -10,7 +10,6 @@ ghost use Rattle.portions.specs.Made.{answered, made};
 use faults::StoreFault;
 
 pub mod amounts;
-mod amounts_calls;
 pub mod dated;
 pub mod deposit;
 pub mod energy;
@@ -18,12 +17,19 @@ pub mod oldest_first;
 pub mod proportional;
 pub mod rules;
 mod stock;
+pub mod terms;
 
 // The largest amount of a portion.
 pub const LARGEST_AMOUNT: u32 = 100_000_000;
 
+// The first month that a store or an account is opened for.
+pub const FIRST_MONTH: u16 = 47;
+
+// The last month that a store or an account reaches.
+pub const LAST_MONTH: u16 = 1_199;
+
 // A row of plain numbers that a portion is kept in.
-#[derive(Clone, Copy)]
+#[derive(Clone, Copy, Debug, Default, PartialEq, Eq)]
 pub struct Slot {
     pub month: u16,
     pub entered: u32,

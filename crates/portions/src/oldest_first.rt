@@ -1,4 +1,4 @@
-ghost use Rattle.std.specs.Prelude.{◌≡◌, min, slice_index};
+ghost use Rattle.std.specs.Prelude.{◌≡◌};
 ghost use Rattle.portions.specs.Listed.{listed};
 ghost use Rattle.portions.specs.Taking.{oldest};
 ghost use Rattle.portions.specs.Takes.{oldest_length, oldest_bounded, oldest_sum};
@@ -10,21 +10,14 @@ use crate::rules::Rule;
 #[derive(Clone, Copy)]
 pub struct OldestFirst;
 
-// What an amount serves of what is still wanted: the smaller of the two.
-fn served(left: &Amounts, place: usize, rest: u32) -> u32
-    ensures { result ≡ min rest (slice_index (listed left.now) place) }
-{
-    rest.min(left.at(place))
-}
-
-// Takes from each amount what it serves of what the older ones have left open.
+// Takes from each amount the smaller of it and what the older ones have left open.
 fn take_oldest(left: &Amounts, wanted: u32) -> Amounts
     ensures { listed result ≡ oldest (listed left.now) wanted }
 {
     let mut takings = Amounts::new();
     let mut rest = wanted;
-    for i in 0..left.len() {
-        let taking = served(left, i, rest);
+    for &amount in left.as_slice() {
+        let taking = rest.min(amount);
         takings.push(taking);
         rest -= taking;
     }

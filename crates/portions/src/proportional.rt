@@ -18,7 +18,7 @@ fn share(w: u64, s: u64, t: u64) -> u64
     requires part { w ≤ t }
     ensures { result ≡ w * s / t }
 {
-    (w as u128 * s as u128 / t as u128) as u64
+    (u128::from(w) * u128::from(s) / u128::from(t)) as u64
 }
 
 // The share of each amount: the shares up to it, less those before it.
@@ -26,12 +26,12 @@ fn take_shares(left: &Amounts, wanted: u32) -> Amounts
     ensures { listed result ≡ proportional (listed left.now) wanted }
 {
     let total = left.total();
-    let w = (wanted as u64).min(total);
+    let w = u64::from(wanted).min(total);
     let t = total.max(1);
     let mut takings = Amounts::new();
     let mut before = 0;
-    for i in 0..left.len() {
-        let after = before + left.at(i) as u64;
+    for &amount in left.as_slice() {
+        let after = before + u64::from(amount);
         let taking = share(w, after, t) - share(w, before, t);
         takings.push(taking as u32);
         before = after;

@@ -1,5 +1,5 @@
 -- What every billing account keeps from call to call, and that it keeps its promise.
-use Rattle.std.proofs.Common.{◌≡◌, ℕ, ◌+◌, ◌<◌, ◌≤◌, true, false, ◌⊎◌, [], ◌∷◌, sym, refl, subst, inl, inr, arith}
+use Rattle.std.proofs.Common.{◌≡◌, ℕ, ◌+◌, ◌<◌, ◌≤◌, true, false, None, ◌⊎◌, [], ◌∷◌, sym, refl, subst, inl, inr, arith}
 use Rattle.hours.specs.declared.sums.MonthSums.{MonthSums}
 use Rattle.portions.specs.Taking.{oldest}
 use Rattle.ledger.specs.Kinds.{LawfulKind}
@@ -135,5 +135,5 @@ billing_keeps o h b had =
       few_lines = λ rule.
           let few = few_open deposit o.month s.trace.calls b.store s.trace.had in
           let long = length_taking (paid rule b) b.store.portions in
-          omega (arith, few, long, few_lines_of 0 (lefts b.store) (drawing (paid rule b) b.store).portions);
+          omega (arith, few, long, few_lines_of None (lefts b.store) (drawing (paid rule b) b.store).portions);
     }

@@ -1,9 +1,9 @@
 -- Lemmas on what zones have.
 use Rattle.std.proofs.Common.{◌≡◌, refl}
-use Rattle.settlement.specs.declared.states.Zone.{Zone}
-use Rattle.settlement.specs.declared.states.Zones.{Zones}
+use Rattle.hours.specs.declared.zones.Zone.{Zone}
+use Rattle.settlement.specs.declared.zones.Zones.{Zones}
 use Rattle.settlement.specs.Zones.{of, put, all, each, each_two}
-use Rattle.settlement.specs.declared.states.Zone.TheVariants.{First, Second, Third}
+use Rattle.hours.specs.declared.zones.Zone.TheVariants.{First, Second, Third}
 
 module _ {X : Type 0} where
   pub of_put : (z : Zone) (x : X) (xs : Zones X) → of z (put z x xs) ≡ x

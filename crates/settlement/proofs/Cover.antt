@@ -8,8 +8,8 @@ use Rattle.ledger.specs.Rules.{Rule, LawfulRule}
 use Rattle.ledger.specs.Ledger.{Ledger, left_in, lefts}
 use Rattle.ledger.specs.Steps.{taking, takings, drawing}
 use Rattle.ledger.proofs.Lists.{sum_lefts, left_taking, within}
-use Rattle.settlement.specs.declared.states.Zone.{Zone}
-use Rattle.settlement.specs.declared.states.Zone.TheVariants.{First, Second, Third}
+use Rattle.hours.specs.declared.zones.Zone.{Zone}
+use Rattle.hours.specs.declared.zones.Zone.TheVariants.{First, Second, Third}
 use Rattle.settlement.specs.Zones.{of}
 use Rattle.settlement.specs.Metering.{Course, wanted, covered, cover, covers, own_stores, other_stores}
 use Rattle.settlement.proofs.ByZone.{of_put, put_relates}

@@ -1,5 +1,5 @@
 -- What every metering account keeps from call to call, and that it keeps its promise.
-use Rattle.std.proofs.Common.{◌≡◌, ℕ, ◌+◌, ◌-◌, ◌*◌, ◌<◌, ◌≤◌, true, false, cond, leb, ◌⊎◌, List, [], ◌∷◌, ◌++◌, length, sym, refl, ap, ◌∙◌, subst, inl, inr, arith, length-append}
+use Rattle.std.proofs.Common.{◌≡◌, ℕ, ◌+◌, ◌-◌, ◌*◌, ◌<◌, ◌≤◌, true, false, cond, leb, Some, ◌⊎◌, List, [], ◌∷◌, ◌++◌, length, sym, refl, ap, ◌∙◌, subst, inl, inr, arith, length-append}
 use Rattle.hours.specs.declared.sums.MonthSums.{MonthSums}
 use Rattle.portions.specs.Taking.{oldest}
 use Rattle.ledger.specs.Kinds.{LawfulKind}
@@ -11,8 +11,8 @@ use Rattle.ledger.proofs.Store.{few_open}
 use Rattle.settlement.specs.declared.answers.Settlement.{Settlement}
 use Rattle.settlement.specs.declared.states.MonthState.{MonthState}
 use Rattle.settlement.specs.declared.states.MonthState.TheVariants.{Waiting, Entered, Settled}
-use Rattle.settlement.specs.declared.states.Zone.{Zone}
-use Rattle.settlement.specs.declared.states.Zone.TheVariants.{First, Second, Third}
+use Rattle.hours.specs.declared.zones.Zone.{Zone}
+use Rattle.hours.specs.declared.zones.Zone.TheVariants.{First, Second, Third}
 use Rattle.settlement.specs.Zones.{of}
 use Rattle.settlement.specs.Kinds.{energy}
 use Rattle.settlement.specs.Table.{ends, period_of}
@@ -229,8 +229,8 @@ metering_keeps o h a had =
       few_lines = λ rule.
           let end = settled_course rule a in
           let few : (z : Zone) → length (of z end.stores).portions ≤ 13 = λ z. omega (arith, few_open energy o.month (s.trace z).calls (of z a.stores) (s.trace z).had, covers_length rule a.coefficient (own_stores ++ other_stores) (outset a) z) in
-          let one = few_lines_of 1 (lefts a.stores.one) end.stores.one.portions in
-          let two = few_lines_of 2 (lefts a.stores.two) end.stores.two.portions in
-          let three = few_lines_of 3 (lefts a.stores.three) end.stores.three.portions in
+          let one = few_lines_of (Some First) (lefts a.stores.one) end.stores.one.portions in
+          let two = few_lines_of (Some Second) (lefts a.stores.two) end.stores.two.portions in
+          let three = few_lines_of (Some Third) (lefts a.stores.three) end.stores.three.portions in
           simp length-append (omega (arith, few First, few Second, few Third, one, two, three));
     }

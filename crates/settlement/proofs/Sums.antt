@@ -2,8 +2,8 @@
 use Rattle.std.proofs.Common.{◌≡◌, ℕ, ◌≤◌, List, length, sum, arith}
 use Rattle.std.proofs.lemmas.List.Sums.{get_or-le-sum_by}
 use Rattle.hours.specs.declared.sums.MonthSums.{MonthSums}
-use Rattle.settlement.specs.declared.states.Zone.{Zone}
-use Rattle.settlement.specs.declared.states.Zone.TheVariants.{First, Second, Third}
+use Rattle.hours.specs.declared.zones.Zone.{Zone}
+use Rattle.hours.specs.declared.zones.Zone.TheVariants.{First, Second, Third}
 use Rattle.settlement.specs.Zones.{of}
 use Rattle.settlement.specs.Metering.{split_by_zone}
 use Rattle.settlement.specs.Billing.{month_deposit, month_bill}

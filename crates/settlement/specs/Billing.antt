@@ -78,7 +78,7 @@ settling_bill rule b = record { opened = true; percentage = b.percentage; state 
 
 -- its lines
 abbrev pub bill_lines : Rule → BillAccount → List Line
-bill_lines rule b = lines_of 0 (lefts b.store) (drawing (paid rule b) b.store).portions
+bill_lines rule b = lines_of None (lefts b.store) (drawing (paid rule b) b.store).portions
 
 -- its answer: what was used, and the rest, which is due
 abbrev pub payment : Rule → BillAccount → Payment

@@ -1,5 +1,5 @@
 -- The metering account: an energy store for each zone, and the import that is pending in each.
-use Rattle.std.specs.Prelude.{ℕ, ◌+◌, ◌-◌, ◌*◌, ◌/◌, min, Bool, true, false, cond, List, [], ◌∷◌, ◌++◌, length, Some, None, Option, nat_le, nat_lt, slice_index}
+use Rattle.std.specs.Prelude.{ℕ, ◌+◌, ◌-◌, ◌*◌, ◌/◌, min, Bool, true, false, cond, List, [], ◌∷◌, ◌++◌, length, Some, None, Option, is_some, unwrap_or, nat_le, nat_lt, slice_index}
 use Rattle.faults.specs.declared.AccountFault.{AccountFault}
 use Rattle.faults.specs.declared.AccountFault.TheVariants.{InStore, MonthOutOfRange, PowerOutOfRange, PeriodUnknown}
 use Rattle.faults.specs.declared.StoreFault.TheVariants.{TooFewSlots}
@@ -15,9 +15,9 @@ use Rattle.settlement.specs.declared.states.MonthState.{MonthState}
 use Rattle.settlement.specs.declared.states.MonthState.TheVariants.{Waiting, Entered, Settled}
 use Rattle.settlement.specs.declared.states.Period.{Period}
 use Rattle.settlement.specs.declared.states.Period.TheVariants.{Monthly}
-use Rattle.settlement.specs.declared.states.Zone.{Zone}
-use Rattle.settlement.specs.declared.states.Zone.TheVariants.{First, Second, Third}
-use Rattle.settlement.specs.declared.states.Zones.{Zones}
+use Rattle.hours.specs.declared.zones.Zone.{Zone}
+use Rattle.hours.specs.declared.zones.Zone.TheVariants.{First, Second, Third}
+use Rattle.settlement.specs.declared.zones.Zones.{Zones}
 use Rattle.settlement.specs.Zones.{of, put, all, each, each_two}
 use Rattle.settlement.specs.Kinds.{energy}
 use Rattle.settlement.specs.Table.{ends, period_of}
@@ -51,17 +51,11 @@ coefficient_for power = cond (nat_le power 10000) 8 7
 
 -- the period of so many months, where there is one
 abbrev pub or_monthly : Option Period → Period
-or_monthly (Some period) = period
-or_monthly None = Monthly
+or_monthly period = unwrap_or period Monthly
 
 -- right after an opening
 abbrev pub opening : MeterOpening → MeterAccount
 opening o = record { opened = true; coefficient = coefficient_for o.power; period = or_monthly (period_of o.months); state = Waiting; pending = all 0; stores = all (ledger.opening o.month) }
-
--- whether there is something
-abbrev pub there : {X : Type 0} → Option X → Bool
-there (Some x) = true
-there None = false
 
 -- an opening asks for 13 slots a store, a month from 47 to 1,199, a power from 1 to 50,000 W and a period of 1, 2 or 6 months
 abbrev pub open_refusal : MeterOpening → Option AccountFault
@@ -69,7 +63,7 @@ open_refusal o =
     asks (nat_lt 12 o.slots) (InStore TooFewSlots)
     (asks (nat_le 47 o.month) MonthOutOfRange (asks (nat_le o.month 1199) MonthOutOfRange
     (asks (nat_le 1 o.power) PowerOutOfRange (asks (nat_le o.power 50000) PowerOutOfRange
-    (asks (there (period_of o.months)) PeriodUnknown None)))))
+    (asks (is_some (period_of o.months)) PeriodUnknown None)))))
 
 -- the energies of a month's sums, by zone
 abbrev pub split_by_zone : List ℕ → Zones ℕ
@@ -138,9 +132,9 @@ settling_meter rule a = record { opened = true; coefficient = a.coefficient; per
 -- a line for each portion of each store, zone by zone, from what was left in each before and the stores after
 abbrev pub all_lines : Zones (List ℕ) → Zones (Ledger (Unit {0})) → List Line
 all_lines before stores =
-    lines_of 1 before.one stores.one.portions
-    ++ (lines_of 2 before.two stores.two.portions
-    ++ lines_of 3 before.three stores.three.portions)
+    lines_of (Some First) before.one stores.one.portions
+    ++ (lines_of (Some Second) before.two stores.two.portions
+    ++ lines_of (Some Third) before.three stores.three.portions)
 
 -- the lines of a settlement that comes to this end
 abbrev pub zone_lines : MeterAccount → Course → List Line

@@ -1,7 +1,7 @@
 -- The course of an account's month: what may be called in which state, and what comes of it.
-use Rattle.std.specs.Prelude.{ℕ, ◌%◌, Bool, true, false, cond, Some, None, Ok, Err, Option, Result, ◌==◌}
+use Rattle.std.specs.Prelude.{ℕ, ◌%◌, Bool, true, false, cond, Some, None, Ok, Err, Option, Result, ok_or, ◌==◌}
 use Rattle.faults.specs.declared.AccountFault.{AccountFault}
-use Rattle.faults.specs.declared.AccountFault.TheVariants.{AlreadyEntered, NothingEntered, PeriodGoesOn, NotSettled, AlreadySettled}
+use Rattle.faults.specs.declared.AccountFault.TheVariants.{AlreadyEntered, NothingEntered, PeriodGoesOn, NotSettled, AlreadySettled, PeriodUnknown}
 use Rattle.settlement.specs.declared.states.MonthState.{MonthState}
 use Rattle.settlement.specs.declared.states.MonthState.TheVariants.{Waiting, Entered, Settled}
 use Rattle.settlement.specs.declared.states.Call.{Call}
@@ -12,6 +12,10 @@ use Rattle.settlement.specs.declared.states.Period.TheVariants.{Monthly, TwoMont
 -- the period of so many months
 abbrev pub period_of : ℕ → Option Period
 period_of n = cond (n == 1) (Some Monthly) (cond (n == 2) (Some TwoMonthly) (cond (n == 6) (Some HalfYearly) None))
+
+-- that period, or the refusal of a number of months that no period has
+abbrev pub known_period : ℕ → Result Period AccountFault
+known_period n = ok_or (period_of n) PeriodUnknown
 
 -- whether a period ends with the month: with every month, with even calendar months, with June and December; month 0 is a January
 abbrev pub ends : Period → ℕ → Bool

@@ -9,37 +9,32 @@ ghost use Rattle.settlement.specs.Billing.{billing};
 mod answers;
 mod standing;
 mod states;
+mod zones;
 
 pub use answers::{Line, Payment, Returned, Settlement};
+pub use hours::Zone;
 pub use standing::Standing;
-pub use states::{Call, MonthState, Period, Zone, Zones};
+pub use states::{Call, MonthState, Period};
+pub use zones::Zones;
 
 // A metering account keeps its promise after every history.
-pub fn metering_keeps_promise() -> u8
+pub fn metering_keeps_promise()
     ensures { KeepsPromise metering }
-{
-    0
-}
+{}
 
 // A billing account keeps its promise after every history.
-pub fn billing_keeps_promise() -> u8
+pub fn billing_keeps_promise()
     ensures { KeepsPromise billing }
-{
-    0
-}
+{}
 
 // Every list of calls after an opening has a history.
-pub fn calls_have_histories() -> u8
+pub fn calls_have_histories()
     ensures metering { CallsHaveHistories metering }
     ensures billing { CallsHaveHistories billing }
-{
-    0
-}
+{}
 
 // A history decides where the account stands.
-pub fn histories_decide() -> u8
+pub fn histories_decide()
     ensures metering { HistoriesDecide metering }
     ensures billing { HistoriesDecide billing }
-{
-    0
-}
+{}

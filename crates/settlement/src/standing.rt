@@ -7,9 +7,7 @@ ghost use Rattle.settlement.specs.Standing.{enter_refusal, settle_refusal, turn_
 
 use crate::states::{Call, MonthState};
 use faults::{AccountFault, StoreFault};
-
-// The last month that can be turned to.
-const LAST_MONTH: u16 = 1_199;
+use portions::LAST_MONTH;
 
 // Refuses, as a store does, a turn in the last month.
 fn not_the_last(month: u16) -> Result<(), StoreFault>
@@ -22,6 +20,7 @@ fn not_the_last(month: u16) -> Result<(), StoreFault>
 }
 
 // Where an account stands: whether it is open, its month and that month's state, and whether a period ends with it.
+// `opened` stays beside the others, since an account has a month and a state before an opening too.
 #[derive(Clone, Copy)]
 pub struct Standing {
     pub opened: bool,

@@ -1,6 +1,6 @@
-// The course of an account's month, its period, and the zones.
+// The course of an account's month, and its period.
 ghost use Rattle.std.specs.Prelude.{◌≡◌};
-ghost use Rattle.settlement.specs.Table.{ends, period_of, table};
+ghost use Rattle.settlement.specs.Table.{ends, known_period, table};
 
 use faults::AccountFault;
 
@@ -49,19 +49,23 @@ pub enum Period {
     HalfYearly,
 }
 
-impl Period {
-    // The period of so many months.
-    pub fn of(months: u8) -> Option<Period>
-        ensures { result ≡ period_of months }
-    {
+// The period of so many months.
+impl TryFrom<u8> for Period {
+    type Error = AccountFault;
+
+    ghost try_from_gives = { λ months r. r ≡ known_period months };
+
+    fn try_from(months: u8) -> Result<Period, AccountFault> {
         match months {
-            1 => Some(Period::Monthly),
-            2 => Some(Period::TwoMonthly),
-            6 => Some(Period::HalfYearly),
-            _ => None,
+            1 => Ok(Period::Monthly),
+            2 => Ok(Period::TwoMonthly),
+            6 => Ok(Period::HalfYearly),
+            _ => Err(AccountFault::PeriodUnknown),
         }
     }
+}
 
+impl Period {
     // Whether the period ends with the month: every month, an even calendar month, June or December.
     pub fn ends(self, month: u16) -> bool
         ensures { result ≡ ends self month }
@@ -72,20 +76,4 @@ impl Period {
             Period::HalfYearly => month % 6 == 5,
         }
     }
-}
-
-// The zones, 1 to 3.
-#[derive(Clone, Copy, PartialEq, Eq, Debug)]
-pub enum Zone {
-    First,
-    Second,
-    Third,
-}
-
-// One thing for each zone.
-#[derive(Clone, Copy)]
-pub struct Zones<T> {
-    pub one: T,
-    pub two: T,
-    pub three: T,
 }

@@ -1,16 +1,28 @@
 //! A store of portions of one kind, in slots that the caller provides.
 #![tactic(auto)]
 
-ghost use Rattle.shelf.specs.Sound.{Sound};
+ghost use Rattle.store.specs.Sound.{Sound};
 
 use portions::Kind;
-use shelf::Shelf;
+use rows::Rows;
+use std::marker::PhantomData;
 
 mod calls;
+mod refusals;
+mod rows;
+mod tells;
+mod totals;
 
-// Portions of the kind K in the caller's slots.
+pub use totals::Totals;
+
+// Portions of the kind K in the caller's slots, the open ones in the rows in use, oldest first.
+// Before an opening is accepted the month is 0, and so are the totals.
 #[derive(Drop)]
 pub struct Store<'a, K: Kind> {
-    shelf: Shelf<'a, K>,
-    ghost sound: { Sound shelf },
+    rows: Rows<'a>,
+    kind: PhantomData<K>,
+    opened: bool,
+    month: u16,
+    totals: Totals,
+    ghost sound: { Sound K.Kind.life rows opened month totals },
 }

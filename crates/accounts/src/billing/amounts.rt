@@ -18,7 +18,7 @@ pub(crate) fn cap_of(sums: &MonthSums, percentage: u8) -> u32
     requires { percentage ≤ 100 }
     ensures { result ≡ month_cap percentage sums.now }
 {
-    (sums.totals().value * percentage as u64 / 100_000_000) as u32
+    (sums.totals().value * u64::from(percentage) / 100_000_000) as u32
 }
 
 // The bill: the charge, rounded.

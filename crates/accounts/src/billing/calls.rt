@@ -4,15 +4,15 @@ ghost use Rattle.settlement.specs.Steps.{open_answer, open_after, enter_answer, 
 ghost use Rattle.settlement.specs.History.{enter_event, settle_event, turn_event};
 ghost use Rattle.settlement.specs.Promises.{Keeps, OpenKeeps};
 ghost use Rattle.settlement.specs.Billing.{billing, closed, open_refusal};
-ghost use Rattle.shelf.specs.Held.{lent, room};
-ghost use Rattle.shelf.specs.Slots.{Accounted};
+ghost use Rattle.store.specs.Held.{lent, room};
+ghost use Rattle.store.specs.Slots.{Accounted};
 ghost use Rattle.accounts.specs.Billed.{billed, bill_opening};
 ghost use Rattle.accounts.specs.Slots.{SameSlots};
 
 use crate::billing::Billing;
 use crate::billing::amounts::{bill_of, cap_of, deposit_of, paid};
 use crate::inside::{
-    draw_store, enough_slots, enter_store, month_in_range, open_store, turn_store,
+    MOST_PORTIONS, draw_store, enough_slots, enter_store, month_in_range, open_store, turn_store,
 };
 use crate::lines::write_lines;
 use faults::AccountFault;
@@ -20,10 +20,7 @@ use hours::MonthSums;
 use portions::rules::Rule;
 use portions::{Kind, Slot};
 use settlement::{Line, MonthState, Payment, Returned};
-use shelf::Shelf;
-
-// The fewest lines that a settlement asks for: a month's portion and those of the twelve months before it.
-const FEWEST_LINES: usize = 13;
+use store::Store;
 
 impl<'a> Billing<'a> {
     // An account over slots, not open yet.
@@ -33,7 +30,7 @@ impl<'a> Billing<'a> {
         ensures lender { result.store.rows.slots.ghost_name ≡ slots.entry.ghost_name }
     {
         Billing {
-            store: Shelf::over(slots),
+            store: Store::over(slots),
             bill: 0,
             percentage: 0,
             state: MonthState::Waiting,
@@ -99,10 +96,10 @@ impl<'a> Billing<'a> {
         ensures slots { Accounted (is_ok result) self.old.store self.new.store }
         ensures promised { Keeps billing (billed self.old) (settle_event (R.Rule.gives rule.now) (length lines.old) result) (billed self.new) }
     {
-        let next = self.standing().may_settle(FEWEST_LINES, lines.len())?;
+        let next = self.standing().may_settle(MOST_PORTIONS, lines.len())?;
         let before = self.store.lefts();
         let used = draw_store(&mut self.store, rule, self.bill);
-        let count = write_lines(&self.store, 0, &before, lines, 0);
+        let count = write_lines(&self.store, None, &before, lines);
         let payment = paid(self.bill, used, count);
         self.bill = 0;
         self.state = next;

@@ -1,7 +1,7 @@
 ghost use Rattle.std.specs.Prelude.{◌≡◌, length};
 ghost use Rattle.std.specs.List.{slice_get};
 ghost use Rattle.settlement.specs.Billing.{billing};
-ghost use Rattle.shelf.specs.Reading.{ledger_totals, told};
+ghost use Rattle.store.specs.Reading.{ledger_totals, told};
 ghost use Rattle.accounts.specs.Means.{deposit_kind};
 ghost use Rattle.accounts.specs.Billed.{billed};
 
@@ -9,7 +9,7 @@ use crate::billing::Billing;
 use portions::Kind;
 use portions::deposit::Deposit;
 use settlement::Standing;
-use shelf::Totals;
+use store::Totals;
 
 impl<'a> Billing<'a> {
     // Where the account stands: whether it is open, its month and that month's state.

@@ -1,97 +1,47 @@
-ghost use Rattle.std.specs.Prelude.{◌≡◌, ◌+◌, ◌-◌, ◌≤◌, true, length, is_ok};
+ghost use Rattle.std.specs.Prelude.{◌≡◌, length, is_ok};
 ghost use Rattle.settlement.specs.Table.{period_of};
-ghost use Rattle.settlement.specs.Zones.{each_two};
 ghost use Rattle.settlement.specs.Answers.{answers};
 ghost use Rattle.settlement.specs.Steps.{open_answer, open_after, enter_answer, enter_after, settle_answer, settle_after, settle_lines, turn_answer, turn_after};
 ghost use Rattle.settlement.specs.History.{enter_event, settle_event, turn_event};
 ghost use Rattle.settlement.specs.Promises.{Keeps, OpenKeeps};
-ghost use Rattle.settlement.specs.Metering.{metering, closed, open_refusal, coefficient_for, or_monthly, split_by_zone};
-ghost use Rattle.shelf.specs.Held.{lent};
+ghost use Rattle.settlement.specs.Metering.{metering, closed, open_refusal, or_monthly};
+ghost use Rattle.store.specs.Held.{lent};
 ghost use Rattle.accounts.specs.Means.{fewest};
-ghost use Rattle.accounts.specs.Bounds.{Within};
 ghost use Rattle.accounts.specs.Metered.{metered, meter_opening};
 ghost use Rattle.accounts.specs.Slots.{EachSame, EachAccounted};
 
-use crate::inside::{enough_slots, month_in_range};
-use crate::metering::Metering;
-use crate::metering::covering::cover_all;
-use crate::metering::stores::{enter_stores, lefts_of, open_stores, turn_stores, write_zones};
+use crate::inside::{MOST_PORTIONS, enough_slots, month_in_range};
+use crate::metering::coefficient::Coefficient;
+use crate::metering::{Metering, Meters};
 use faults::AccountFault;
 use hours::MonthSums;
 use portions::rules::Rule;
 use portions::{Kind, Slot};
 use settlement::{Line, MonthState, Period, Returned, Settlement, Zones};
-use shelf::Shelf;
+use store::Store;
 
-// The fewest lines that a settlement asks for: in each zone a month's portion and those of the twelve months before it.
-const FEWEST_LINES: usize = 39;
-
-// Nothing in any zone.
-const NOTHING: Zones<u32> = Zones {
-    one: 0,
-    two: 0,
-    three: 0,
-};
-
-// The coefficient of an installation of so many watts, in tenths.
-fn coefficient_of(power: u32) -> u32
-    ensures value { result ≡ coefficient_for power }
-    ensures bounds { (7 ≤ result) × (result ≤ 8) }
-{
-    if power <= 10_000 { 8 } else { 7 }
-}
-
-// The energies of a month, by zone.
-fn by_zone(energies: [u32; 3]) -> Zones<u32>
-    ensures { result ≡ split_by_zone energies }
-{
-    Zones {
-        one: energies[0],
-        two: energies[1],
-        three: energies[2],
-    }
-}
-
-// The sums of two amounts in each zone.
-fn plus(a: Zones<u32>, b: Zones<u32>) -> Zones<u32>
-    requires left { Within 447000000 a }
-    requires right { Within 447000000 b }
-    ensures { result ≡ each_two ◌+◌ a b }
-{
-    Zones {
-        one: a.one + b.one,
-        two: a.two + b.two,
-        three: a.three + b.three,
-    }
-}
-
-// Each amount less another, or 0.
-fn less(a: Zones<u32>, b: Zones<u32>) -> Zones<u32>
-    ensures { result ≡ each_two (λ p rest. p - rest) a b }
-{
-    Zones {
-        one: a.one.saturating_sub(b.one),
-        two: a.two.saturating_sub(b.two),
-        three: a.three.saturating_sub(b.three),
-    }
-}
+// The fewest lines that a settlement asks for: one for each portion that can be open.
+const FEWEST_LINES: usize = 3 * MOST_PORTIONS;
 
 impl<'a> Metering<'a> {
     // An account over three lists of slots, not open yet.
     pub fn over(one: &'a mut [Slot], two: &'a mut [Slot], three: &'a mut [Slot]) -> Metering<'a>
         ensures state { metered result ≡ closed }
-        ensures first { (lent result.stores.one ≡ one.old) × (result.stores.one.rows.slots.ghost_name ≡ one.entry.ghost_name) }
-        ensures second { (lent result.stores.two ≡ two.old) × (result.stores.two.rows.slots.ghost_name ≡ two.entry.ghost_name) }
-        ensures third { (lent result.stores.three ≡ three.old) × (result.stores.three.rows.slots.ghost_name ≡ three.entry.ghost_name) }
+        ensures first { (lent result.meters.stores.one ≡ one.old) × (result.meters.stores.one.rows.slots.ghost_name ≡ one.entry.ghost_name) }
+        ensures second { (lent result.meters.stores.two ≡ two.old) × (result.meters.stores.two.rows.slots.ghost_name ≡ two.entry.ghost_name) }
+        ensures third { (lent result.meters.stores.three ≡ three.old) × (result.meters.stores.three.rows.slots.ghost_name ≡ three.entry.ghost_name) }
     {
+        let stores = Zones {
+            one: Store::over(one),
+            two: Store::over(two),
+            three: Store::over(three),
+        };
         Metering {
-            stores: Zones {
-                one: Shelf::over(one),
-                two: Shelf::over(two),
-                three: Shelf::over(three),
+            meters: Meters {
+                stores,
+                pending: Zones::default(),
             },
-            pending: NOTHING,
-            coefficient: 8,
+            coefficient: Coefficient::Eight,
             period: Period::Monthly,
             state: MonthState::Waiting,
             opened: false,
@@ -100,29 +50,28 @@ impl<'a> Metering<'a> {
 
     // Refuses an opening that is not to be; otherwise the period of so many months.
     fn may_open(&self, month: u16, power: u32, months: u8) -> Result<Period, AccountFault>
-        ensures { result ≡ answers (open_refusal (meter_opening (fewest self.now.stores) month power months)) (or_monthly (period_of months)) }
+        ensures { result ≡ answers (open_refusal (meter_opening (fewest self.now.meters.stores) month power months)) (or_monthly (period_of months)) }
     {
-        enough_slots(self.stores.one.room())?;
-        enough_slots(self.stores.two.room())?;
-        enough_slots(self.stores.three.room())?;
+        enough_slots(self.meters.stores.one.room())?;
+        enough_slots(self.meters.stores.two.room())?;
+        enough_slots(self.meters.stores.three.room())?;
         month_in_range(month)?;
         if power == 0 || power > 50_000 {
             return Err(AccountFault::PowerOutOfRange);
         }
-        Period::of(months).ok_or(AccountFault::PeriodUnknown)
+        Period::try_from(months)
     }
 
     // Starts anew in a month, with a power in W and a period of so many months.
     pub fn open(&mut self, month: u16, power: u32, months: u8) -> Result<(), AccountFault>
-        ensures answer { result ≡ open_answer metering (meter_opening (fewest self.old.stores) month power months) (metered self.old) }
-        ensures state { metered self.new ≡ open_after metering (meter_opening (fewest self.old.stores) month power months) (metered self.old) }
-        ensures slots { EachSame self.old.stores self.new.stores }
-        ensures promised { OpenKeeps metering (metered self.old) (meter_opening (fewest self.old.stores) month power months) result (metered self.new) }
+        ensures answer { result ≡ open_answer metering (meter_opening (fewest self.old.meters.stores) month power months) (metered self.old) }
+        ensures state { metered self.new ≡ open_after metering (meter_opening (fewest self.old.meters.stores) month power months) (metered self.old) }
+        ensures slots { EachSame self.old.meters.stores self.new.meters.stores }
+        ensures promised { OpenKeeps metering (metered self.old) (meter_opening (fewest self.old.meters.stores) month power months) result (metered self.new) }
     {
         let period = self.may_open(month, power, months)?;
-        open_stores(&mut self.stores, month);
-        self.pending = NOTHING;
-        self.coefficient = coefficient_of(power);
+        self.meters.open(month);
+        self.coefficient = Coefficient::of_power(power);
         self.period = period;
         self.state = MonthState::Waiting;
         self.opened = true;
@@ -133,17 +82,16 @@ impl<'a> Metering<'a> {
     pub fn enter(&mut self, sums: MonthSums) -> Result<(), Returned>
         ensures answer { result ≡ enter_answer metering sums (metered self.old) }
         ensures state { metered self.new ≡ enter_after metering sums (metered self.old) }
-        ensures slots { EachAccounted (is_ok result) self.old.stores self.new.stores }
+        ensures slots { EachAccounted (is_ok result) self.old.meters.stores self.new.meters.stores }
         ensures promised { Keeps metering (metered self.old) (enter_event sums result) (metered self.new) }
     {
         match self.standing().may_enter(sums.month()) {
             Err(fault) => Err(Returned { fault, sums }),
             Ok(next) => {
                 let energies = sums.strike();
-                let exports = by_zone(energies.export);
-                let imports = by_zone(energies.import);
-                enter_stores(&mut self.stores, exports);
-                self.pending = plus(self.pending, imports);
+                let exports = Zones::from(energies.export);
+                let imports = Zones::from(energies.import);
+                self.meters.enter(exports, imports);
                 self.state = next;
                 Ok(())
             }
@@ -160,20 +108,20 @@ impl<'a> Metering<'a> {
         ensures answer { result ≡ settle_answer metering (R.Rule.gives rule.now) (length lines.old) (metered self.old) }
         ensures state { metered self.new ≡ settle_after metering (R.Rule.gives rule.now) (length lines.old) (metered self.old) }
         ensures lines { lines.new ≡ settle_lines metering (R.Rule.gives rule.now) (metered self.old) lines.old }
-        ensures slots { EachAccounted (is_ok result) self.old.stores self.new.stores }
+        ensures slots { EachAccounted (is_ok result) self.old.meters.stores self.new.meters.stores }
         ensures promised { Keeps metering (metered self.old) (settle_event (R.Rule.gives rule.now) (length lines.old) result) (metered self.new) }
     {
         let next = self.standing().may_settle(FEWEST_LINES, lines.len())?;
-        let before = lefts_of(&self.stores);
-        let mut rests = self.pending;
-        cover_all(&mut self.stores, rule, self.coefficient, &mut rests);
-        let count = write_zones(&self.stores, &before, lines);
-        let covered = less(self.pending, rests);
-        self.pending = NOTHING;
+        let before = self.meters.lefts();
+        let pending = self.meters.pending;
+        self.meters.cover_all(rule, self.coefficient);
+        let count = self.meters.write(&before, lines);
+        let due = self.meters.pending;
+        self.meters.pending = Zones::default();
         self.state = next;
         Ok(Settlement {
-            covered,
-            due: rests,
+            covered: pending.zip_with(due, |was, rest| was.saturating_sub(rest)),
+            due,
             lines: count,
         })
     }
@@ -182,11 +130,11 @@ impl<'a> Metering<'a> {
     pub fn turn(&mut self) -> Result<(u64, u64), AccountFault>
         ensures answer { result ≡ turn_answer metering (metered self.old) }
         ensures state { metered self.new ≡ turn_after metering (metered self.old) }
-        ensures slots { EachAccounted (is_ok result) self.old.stores self.new.stores }
+        ensures slots { EachAccounted (is_ok result) self.old.meters.stores self.new.meters.stores }
         ensures promised { Keeps metering (metered self.old) (turn_event result) (metered self.new) }
     {
         let next = self.standing().may_turn()?;
-        let ended = turn_stores(&mut self.stores);
+        let ended = self.meters.turn();
         self.state = next;
         Ok(ended)
     }

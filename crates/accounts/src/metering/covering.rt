@@ -2,156 +2,73 @@
 ghost use Rattle.std.specs.Prelude.{◌≡◌, ◌-◌, ◌≤◌, true, ◌++◌};
 ghost use Rattle.portions.specs.Sums.{sum};
 ghost use Rattle.ledger.specs.Steps.{takings, drawing};
-ghost use Rattle.shelf.specs.Sound.{Sound};
-ghost use Rattle.settlement.specs.Metering.{wanted, covered, cover, covers, own_stores, other_stores};
+ghost use Rattle.settlement.specs.Metering.{cover, covers, own_stores, other_stores};
 ghost use Rattle.settlement.specs.Zones.{of, put, each};
-ghost use Rattle.accounts.specs.Means.{energies, course};
-ghost use Rattle.accounts.specs.Bounds.{Within, Ready, Kept};
-ghost use Rattle.accounts.specs.Slots.{Drawn, EachDrawn};
+ghost use Rattle.accounts.specs.Bounds.{Ready};
+ghost use Rattle.accounts.specs.Coefficients.{tenths};
+ghost use Rattle.accounts.specs.Means.{energies};
+ghost use Rattle.accounts.specs.Metered.{course};
+ghost use Rattle.accounts.specs.Slots.{EachDrawn};
 
 use crate::inside::draw_store;
-use portions::energy::Energy;
+use crate::metering::Meters;
+use crate::metering::coefficient::Coefficient;
 use portions::rules::Rule;
-use settlement::{Zone, Zones};
-use shelf::Shelf;
+use settlement::Zone;
 
-// Wanted of a store to cover a rest: 10 × rest / c, rounded up.
-fn wanted_for(c: u32, rest: u32) -> u64
-    requires { 1 ≤ c }
-    ensures { result ≡ wanted c rest }
-{
-    (10 * rest as u64 + (c - 1) as u64) / c as u64
-}
+// The zones to be covered, each with the store that it is covered from: each zone from its own store, and then each from
+// the stores of the others.
+const ORDER: [(Zone, Zone); 9] = [
+    (Zone::First, Zone::First),
+    (Zone::Second, Zone::Second),
+    (Zone::Third, Zone::Third),
+    (Zone::First, Zone::Second),
+    (Zone::First, Zone::Third),
+    (Zone::Second, Zone::First),
+    (Zone::Second, Zone::Third),
+    (Zone::Third, Zone::First),
+    (Zone::Third, Zone::Second),
+];
 
-// What is not covered of a rest for which so much was used: used × c / 10 is covered, rounded down.
-fn uncovered(c: u32, rest: u32, used: u32) -> u32
-    requires { c ≤ 8 }
-    ensures { result ≡ rest - covered c rest used }
-{
-    let served = used as u64 * c as u64 / 10;
-    if served < (rest as u64) {
-        rest - served as u32
-    } else {
-        0
+impl<'a> Meters<'a> {
+    // Draws on the store of a zone: the sum taken.
+    fn draw<R: Rule>(&mut self, rule: &R, from: Zone, wanted: u32) -> u32
+        requires ready { Ready self.old.stores }
+        requires small { wanted ≤ 1000000000 }
+        ensures used { result ≡ sum (takings (R.Rule.gives rule.now) wanted (of from (each energies self.old.stores))) }
+        ensures stores { each energies self.new.stores ≡ put from (drawing (takings (R.Rule.gives rule.now) wanted (of from (each energies self.old.stores))) (of from (each energies self.old.stores))) (each energies self.old.stores) }
+        ensures pending { self.new.pending ≡ self.old.pending }
+        ensures slots { EachDrawn self.old.stores self.new.stores }
+        ensures ready { Ready self.new.stores }
+    {
+        match from {
+            Zone::First => draw_store(&mut self.stores.one, rule, wanted),
+            Zone::Second => draw_store(&mut self.stores.two, rule, wanted),
+            Zone::Third => draw_store(&mut self.stores.three, rule, wanted),
+        }
     }
-}
 
-// Covers a rest from a store, and returns what is not covered.
-fn cover_rest<R: Rule>(store: &mut Shelf<Energy>, rule: &R, c: u32, rest: u32) -> u32
-    requires sound { Sound store.old }
-    requires low { 7 ≤ c }
-    requires high { c ≤ 8 }
-    requires few { rest ≤ 447000000 }
-    requires ready { (energies store.old).opened ≡ true }
-    ensures rest { result ≡ rest - covered c rest (sum (takings (R.Rule.gives rule.now) (wanted c rest) (energies store.old))) }
-    ensures state { energies store.new ≡ drawing (takings (R.Rule.gives rule.now) (wanted c rest) (energies store.old)) (energies store.old) }
-    ensures slots { Drawn store.old store.new }
-    ensures sound { Sound store.new }
-    ensures ready { (energies store.new).opened ≡ true }
-{
-    let want = wanted_for(c, rest);
-    let used = draw_store(store, rule, want as u32);
-    uncovered(c, rest, used)
-}
-
-// What a zone has.
-fn at(amounts: &Zones<u32>, zone: Zone) -> u32
-    ensures { result ≡ of zone amounts.now }
-{
-    match zone {
-        Zone::First => amounts.one,
-        Zone::Second => amounts.two,
-        Zone::Third => amounts.three,
+    // Covers what is pending in a zone from the store of a zone.
+    fn cover<R: Rule>(&mut self, rule: &R, coefficient: Coefficient, zone: Zone, from: Zone)
+        requires ready { Ready self.old.stores }
+        ensures course { course self.new ≡ cover (R.Rule.gives rule.now) (tenths coefficient) zone from (course self.old) }
+        ensures slots { EachDrawn self.old.stores self.new.stores }
+        ensures ready { Ready self.new.stores }
+    {
+        let rest = *self.pending.of(zone);
+        let used = self.draw(rule, from, coefficient.wanted(rest));
+        self.pending.put(zone, coefficient.uncovered(rest, used));
     }
-}
 
-// Sets what a zone has.
-fn set(amounts: &mut Zones<u32>, zone: Zone, amount: u32)
-    ensures { amounts.new ≡ put zone amount amounts.old }
-{
-    match zone {
-        Zone::First => amounts.one = amount,
-        Zone::Second => amounts.two = amount,
-        Zone::Third => amounts.three = amount,
+    // Covers each zone from its own store, and then each from the stores of the others.
+    pub(super) fn cover_all<R: Rule>(&mut self, rule: &R, coefficient: Coefficient)
+        requires ready { Ready self.old.stores }
+        ensures course { course self.new ≡ covers (R.Rule.gives rule.now) (tenths coefficient) (own_stores ++ other_stores) (course self.old) }
+        ensures slots { EachDrawn self.old.stores self.new.stores }
+        ensures ready { Ready self.new.stores }
+    {
+        for (zone, from) in ORDER {
+            self.cover(rule, coefficient, zone, from);
+        }
     }
-}
-
-// Covers a rest from the store of a zone, and returns what is not covered.
-fn rest_from<R: Rule>(
-    stores: &mut Zones<Shelf<Energy>>,
-    rule: &R,
-    c: u32,
-    from: Zone,
-    rest: u32,
-) -> u32
-    requires sound { Kept stores.old }
-    requires low { 7 ≤ c }
-    requires high { c ≤ 8 }
-    requires ready { Ready stores.old }
-    requires few { rest ≤ 447000000 }
-    ensures rest { result ≡ rest - covered c rest (sum (takings (R.Rule.gives rule.now) (wanted c rest) (of from (each energies stores.old)))) }
-    ensures state { each energies stores.new ≡ put from (drawing (takings (R.Rule.gives rule.now) (wanted c rest) (of from (each energies stores.old))) (of from (each energies stores.old))) (each energies stores.old) }
-    ensures slots { EachDrawn stores.old stores.new }
-    ensures sound { Kept stores.new }
-    ensures ready { Ready stores.new }
-{
-    match from {
-        Zone::First => cover_rest(&mut stores.one, rule, c, rest),
-        Zone::Second => cover_rest(&mut stores.two, rule, c, rest),
-        Zone::Third => cover_rest(&mut stores.three, rule, c, rest),
-    }
-}
-
-// Covers a zone's rest from the store of a zone.
-fn cover_from<R: Rule>(
-    stores: &mut Zones<Shelf<Energy>>,
-    rule: &R,
-    c: u32,
-    zone: Zone,
-    from: Zone,
-    rests: &mut Zones<u32>,
-)
-    requires sound { Kept stores.old }
-    requires low { 7 ≤ c }
-    requires high { c ≤ 8 }
-    requires ready { Ready stores.old }
-    requires few { Within 447000000 rests.old }
-    ensures course { course stores.new rests.new ≡ cover (R.Rule.gives rule.now) c zone from (course stores.old rests.old) }
-    ensures few { Within 447000000 rests.new }
-    ensures slots { EachDrawn stores.old stores.new }
-    ensures sound { Kept stores.new }
-    ensures ready { Ready stores.new }
-{
-    let rest = at(rests, zone);
-    let left = rest_from(stores, rule, c, from, rest);
-    set(rests, zone, left);
-}
-
-// Covers each zone from its own store, and then each from the stores of the others.
-pub(crate) fn cover_all<R: Rule>(
-    stores: &mut Zones<Shelf<Energy>>,
-    rule: &R,
-    c: u32,
-    rests: &mut Zones<u32>,
-)
-    requires sound { Kept stores.old }
-    requires low { 7 ≤ c }
-    requires high { c ≤ 8 }
-    requires ready { Ready stores.old }
-    requires few { Within 447000000 rests.old }
-    ensures course { course stores.new rests.new ≡ covers (R.Rule.gives rule.now) c (own_stores ++ other_stores) (course stores.old rests.old) }
-    ensures few { Within 447000000 rests.new }
-    ensures slots { EachDrawn stores.old stores.new }
-    ensures sound { Kept stores.new }
-    ensures ready { Ready stores.new }
-{
-    cover_from(stores, rule, c, Zone::First, Zone::First, rests);
-    cover_from(stores, rule, c, Zone::Second, Zone::Second, rests);
-    cover_from(stores, rule, c, Zone::Third, Zone::Third, rests);
-    cover_from(stores, rule, c, Zone::First, Zone::Second, rests);
-    cover_from(stores, rule, c, Zone::First, Zone::Third, rests);
-    cover_from(stores, rule, c, Zone::Second, Zone::First, rests);
-    cover_from(stores, rule, c, Zone::Second, Zone::Third, rests);
-    cover_from(stores, rule, c, Zone::Third, Zone::First, rests);
-    cover_from(stores, rule, c, Zone::Third, Zone::Second, rests);
 }

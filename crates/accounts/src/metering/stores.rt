@@ -8,91 +8,84 @@ ghost use Rattle.settlement.specs.Zones.{all, each, each_two};
 ghost use Rattle.settlement.specs.Lines.{written};
 ghost use Rattle.settlement.specs.Metering.{all_lines};
 ghost use Rattle.accounts.specs.Means.{energies, fewest};
-ghost use Rattle.accounts.specs.Bounds.{Free, Kept, Known, Ready, Together, Within};
+ghost use Rattle.accounts.specs.Bounds.{Free, Known, Ready, Within};
 ghost use Rattle.accounts.specs.Slots.{EachSame, EachAccounted};
 
 use crate::inside::{enter_store, open_store, turn_store};
 use crate::lines::write_lines;
+use crate::metering::Meters;
 use portions::amounts::Amounts;
-use portions::energy::Energy;
-use settlement::{Line, Zones};
-use shelf::Shelf;
+use settlement::{Line, Zone, Zones};
 
-// Opens the three stores, which have the slots, for a month that can be.
-pub(crate) fn open_stores(stores: &mut Zones<Shelf<Energy>>, month: u16)
-    requires sound { Kept stores.old }
-    requires roomy { 12 < fewest stores.old }
-    requires low { 47 ≤ month }
-    requires high { month ≤ 1199 }
-    ensures state { each energies stores.new ≡ all (opening month) }
-    ensures slots { EachSame stores.old stores.new }
-    ensures sound { Kept stores.new }
-{
-    open_store(&mut stores.one, month);
-    open_store(&mut stores.two, month);
-    open_store(&mut stores.three, month);
-}
-
-// Enters an amount into each store.
-pub(crate) fn enter_stores(stores: &mut Zones<Shelf<Energy>>, amounts: Zones<u32>)
-    requires sound { Kept stores.old }
-    requires ready { Ready stores.old }
-    requires free { Free stores.old }
-    requires small { Within 100000000 amounts }
-    ensures state { each energies stores.new ≡ each_two (λ amount store. entering amount tt store) amounts (each energies stores.old) }
-    ensures slots { EachAccounted true stores.old stores.new }
-    ensures sound { Kept stores.new }
-{
-    enter_store(&mut stores.one, amounts.one, ());
-    enter_store(&mut stores.two, amounts.two, ());
-    enter_store(&mut stores.three, amounts.three, ());
-}
-
-// Turns the three stores: their refunds and losses, summed.
-pub(crate) fn turn_stores(stores: &mut Zones<Shelf<Energy>>) -> (u64, u64)
-    requires sound { Kept stores.old }
-    requires ready { Ready stores.old }
-    requires together { Together stores.old }
-    requires early { (energies stores.old.one).month < 1199 }
-    ensures refunded { result.0 ≡ refunds energy (energies stores.old.one) + refunds energy (energies stores.old.two) + refunds energy (energies stores.old.three) }
-    ensures lost { result.1 ≡ losses energy (energies stores.old.one) + losses energy (energies stores.old.two) + losses energy (energies stores.old.three) }
-    ensures state { each energies stores.new ≡ each (turning energy) (each energies stores.old) }
-    ensures slots { EachAccounted true stores.old stores.new }
-    ensures sound { Kept stores.new }
-    ensures free { Free stores.new }
-{
-    let one = turn_store(&mut stores.one);
-    let two = turn_store(&mut stores.two);
-    let three = turn_store(&mut stores.three);
-    (one.0 + two.0 + three.0, one.1 + two.1 + three.1)
-}
-
-// What is left in each open portion of each store.
-pub(crate) fn lefts_of(stores: &Zones<Shelf<Energy>>) -> Zones<Amounts>
-    requires { Kept stores.now }
-    ensures { each listed result ≡ each lefts (each energies stores.now) }
-{
-    Zones {
-        one: stores.one.lefts(),
-        two: stores.two.lefts(),
-        three: stores.three.lefts(),
+impl<'a> Meters<'a> {
+    // Opens the three stores, which have the slots, for a month that can be, with nothing pending.
+    pub(super) fn open(&mut self, month: u16)
+        requires roomy { 12 < fewest self.old.stores }
+        requires low { 47 ≤ month }
+        requires high { month ≤ 1199 }
+        ensures stores { each energies self.new.stores ≡ all (opening month) }
+        ensures pending { self.new.pending ≡ all 0 }
+        ensures slots { EachSame self.old.stores self.new.stores }
+    {
+        open_store(&mut self.stores.one, month);
+        open_store(&mut self.stores.two, month);
+        open_store(&mut self.stores.three, month);
+        self.pending = Zones::default();
     }
-}
 
-// Writes a line for each open portion, zone by zone, over the first of the caller's lines: how many there are.
-pub(crate) fn write_zones(
-    stores: &Zones<Shelf<Energy>>,
-    before: &Zones<Amounts>,
-    lines: &mut [Line],
-) -> usize
-    requires sound { Kept stores.now }
-    requires ready { Ready stores.now }
-    requires known { Known (each listed before.now) (each energies stores.now) }
-    requires room { 39 ≤ length lines.old }
-    ensures count { result ≡ length (all_lines (each listed before.now) (each energies stores.now)) }
-    ensures lines { lines.new ≡ written (all_lines (each listed before.now) (each energies stores.now)) lines.old }
-{
-    let second = write_lines(&stores.one, 1, &before.one, lines, 0);
-    let third = write_lines(&stores.two, 2, &before.two, lines, second);
-    write_lines(&stores.three, 3, &before.three, lines, third)
+    // Enters an export into each store, and adds an import to what is pending.
+    pub(super) fn enter(&mut self, exports: Zones<u32>, imports: Zones<u32>)
+        requires ready { Ready self.old.stores }
+        requires free { Free self.old.stores }
+        requires small { Within 100000000 exports }
+        requires few { Within 447000000 (each_two ◌+◌ self.old.pending imports) }
+        ensures stores { each energies self.new.stores ≡ each_two (λ amount store. entering amount tt store) exports (each energies self.old.stores) }
+        ensures pending { self.new.pending ≡ each_two ◌+◌ self.old.pending imports }
+        ensures slots { EachAccounted true self.old.stores self.new.stores }
+    {
+        enter_store(&mut self.stores.one, exports.one, ());
+        enter_store(&mut self.stores.two, exports.two, ());
+        enter_store(&mut self.stores.three, exports.three, ());
+        self.pending = self.pending.zip_with(imports, |was, more| was + more);
+    }
+
+    // Turns the three stores: their refunds and losses, summed.
+    pub(super) fn turn(&mut self) -> (u64, u64)
+        requires ready { Ready self.old.stores }
+        requires early { (energies self.old.stores.one).month < 1199 }
+        ensures refunded { result.0 ≡ refunds energy (energies self.old.stores.one) + refunds energy (energies self.old.stores.two) + refunds energy (energies self.old.stores.three) }
+        ensures lost { result.1 ≡ losses energy (energies self.old.stores.one) + losses energy (energies self.old.stores.two) + losses energy (energies self.old.stores.three) }
+        ensures stores { each energies self.new.stores ≡ each (turning energy) (each energies self.old.stores) }
+        ensures pending { self.new.pending ≡ self.old.pending }
+        ensures slots { EachAccounted true self.old.stores self.new.stores }
+        ensures free { Free self.new.stores }
+    {
+        let one = turn_store(&mut self.stores.one);
+        let two = turn_store(&mut self.stores.two);
+        let three = turn_store(&mut self.stores.three);
+        (one.0 + two.0 + three.0, one.1 + two.1 + three.1)
+    }
+
+    // What is left in each open portion of each store.
+    pub(super) fn lefts(&self) -> Zones<Amounts>
+        ensures { each listed result ≡ each lefts (each energies self.now.stores) }
+    {
+        self.stores.map(|store| store.lefts())
+    }
+
+    // Writes a line for each open portion, zone by zone, over the first of the caller's lines: how many there are.
+    pub(super) fn write(&self, before: &Zones<Amounts>, lines: &mut [Line]) -> usize
+        requires known { Known (each listed before.now) (each energies self.now.stores) }
+        requires room { 39 ≤ length lines.old }
+        ensures count { result ≡ length (all_lines (each listed before.now) (each energies self.now.stores)) }
+        ensures lines { lines.new ≡ written (all_lines (each listed before.now) (each energies self.now.stores)) lines.old }
+    {
+        let stores = &self.stores;
+        let one = write_lines(&stores.one, Some(Zone::First), &before.one, lines);
+        let (_, rest) = lines.split_at_mut(one);
+        let two = write_lines(&stores.two, Some(Zone::Second), &before.two, rest);
+        let (_, rest) = rest.split_at_mut(two);
+        let three = write_lines(&stores.three, Some(Zone::Third), &before.three, rest);
+        one + two + three
+    }
 }

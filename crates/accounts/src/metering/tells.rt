@@ -2,7 +2,7 @@ ghost use Rattle.std.specs.Prelude.{◌≡◌, length};
 ghost use Rattle.std.specs.List.{slice_get};
 ghost use Rattle.settlement.specs.Zones.{of};
 ghost use Rattle.settlement.specs.Metering.{metering};
-ghost use Rattle.shelf.specs.Reading.{ledger_totals, told};
+ghost use Rattle.store.specs.Reading.{ledger_totals, told};
 ghost use Rattle.accounts.specs.Means.{energy_kind};
 ghost use Rattle.accounts.specs.Metered.{metered};
 
@@ -10,14 +10,14 @@ use crate::metering::Metering;
 use portions::Kind;
 use portions::energy::Energy;
 use settlement::{Standing, Zone, Zones};
-use shelf::Totals;
+use store::Totals;
 
 impl<'a> Metering<'a> {
     // Where the account stands: whether it is open, its month and that month's state, and whether a period ends with it.
     pub fn standing(&self) -> Standing
         ensures { result ≡ metering.standing (metered self.now) }
     {
-        let month = self.stores.one.month();
+        let month = self.meters.stores.one.month();
         Standing {
             opened: self.opened,
             month,
@@ -30,39 +30,27 @@ impl<'a> Metering<'a> {
     pub fn pending(&self) -> Zones<u32>
         ensures { result ≡ (metered self.now).pending }
     {
-        self.pending
+        self.meters.pending
     }
 
     // How many portions are open in a zone's store.
     pub fn count(&self, zone: Zone) -> usize
         ensures { result ≡ length (of zone (metered self.now).stores).portions }
     {
-        match zone {
-            Zone::First => self.stores.one.count(),
-            Zone::Second => self.stores.two.count(),
-            Zone::Third => self.stores.three.count(),
-        }
+        self.meters.stores.of(zone).count()
     }
 
     // The open portion at a place of a zone's store, from the oldest.
     pub fn portion(&self, zone: Zone, place: usize) -> Option<Energy>
         ensures { told energy_kind.means result ≡ slice_get (of zone (metered self.now).stores).portions place }
     {
-        match zone {
-            Zone::First => self.stores.one.portion(place),
-            Zone::Second => self.stores.two.portion(place),
-            Zone::Third => self.stores.three.portion(place),
-        }
+        self.meters.stores.of(zone).portion(place)
     }
 
     // The totals of what was entered, used, refunded and lost in a zone's store.
     pub fn totals(&self, zone: Zone) -> Totals
         ensures { result ≡ ledger_totals (of zone (metered self.now).stores) }
     {
-        match zone {
-            Zone::First => self.stores.one.totals(),
-            Zone::Second => self.stores.two.totals(),
-            Zone::Third => self.stores.three.totals(),
-        }
+        self.meters.stores.of(zone).totals()
     }
 }

@@ -2,4 +2,4 @@ use Rattle.ledger.proofs.Runs.{have_histories}
 use Rattle.ledger.proofs.calls_have_histories.Goals as goal
 
 pub returns : goal.returns
-returns g c = λ kind. have_histories kind
+returns g c = have_histories

@@ -2,4 +2,4 @@ use Rattle.ledger.proofs.Runs.{history_decides}
 use Rattle.ledger.proofs.histories_decide.Goals as goal
 
 pub returns : goal.returns
-returns g c = λ kind. history_decides kind
+returns g c = history_decides

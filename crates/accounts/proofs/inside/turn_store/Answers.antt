@@ -1,27 +1,15 @@
-use Rattle.std.proofs.Common.{ap, ◌∙◌, arith}
-use Rattle.ledger.specs.Calls.{answers, becomes}
-use Rattle.ledger.specs.Steps.{turning, refunds, losses}
-use Rattle.shelf.specs.Reading.{kind_of, ledger_of}
-use Rattle.accounts.proofs.Facts.{turned_free, turned_small}
-use Rattle.accounts.proofs.Allowed.{held_in, turn_allowed}
+use Rattle.std.proofs.Common.{ap, ◌∙◌}
+use Rattle.ledger.specs.Calls.{becomes}
+use Rattle.ledger.specs.Steps.{turning}
+use Rattle.store.specs.Reading.{kind_of, ledger_of}
+use Rattle.accounts.proofs.Facts.{turned_free}
+use Rattle.accounts.proofs.Allowed.{turn_allowed}
 use Rattle.accounts.proofs.inside.turn_store.Goals as goal
 
-pub returns-in-Ok : goal.returns-in-Ok
-returns-in-Ok g c =
+pub returns-clause-free : goal.returns-clause-free
+returns-clause-free g c =
     let k = g.K.Kind in
     let s = c.args.store.now in
-    let s' = c.turn.new.self in
     let l = ledger_of k s in
-    let e = c.in-Ok.ensures in
-    let none' = turn_allowed l c.requires.ready c.requires.early in
-    let ended = held_in _ _ (e.answer ∙ ap (λ o. answers o (refunds (kind_of k) l, losses (kind_of k) l)) none') in
-    let state = e.state ∙ ap (λ o. becomes o (turning (kind_of k) l) l) none' in
-    record {
-      refunded = ap (λ p. p.0) ended;
-      lost = ap (λ p. p.1) ended;
-      state = state;
-      slots = e.slots;
-      sound = e.sound;
-      free = turned_free k s c.requires.sound s' e.sound state;
-      small = omega (arith, turned_small k s c.requires.sound s' e.sound state, ap (λ p. p.0) ended, ap (λ p. p.1) ended);
-    }
+    let e = c.turn.ensures in
+    turned_free k s c.turn.new.self (e.state ∙ ap (λ o. becomes o (turning (kind_of k) l) l) (turn_allowed l c.requires.ready c.requires.early))

@@ -1,9 +1,7 @@
-use Rattle.std.proofs.Common.{sym, arith}
-use Rattle.shelf.specs.Reading.{ledger_of}
-use Rattle.accounts.proofs.Written.{none_past}
+use Rattle.std.proofs.Common.{◌≡◌, ℕ, sym, arith}
+use Rattle.store.specs.Reading.{ledger_of}
+use Rattle.accounts.proofs.Written.{portion_there}
 use Rattle.accounts.proofs.lines.line_at.Goals as goal
 
-pub returns-in-None : goal.returns-in-None
-returns-in-None g c =
-    let past = none_past (ledger_of g.K.Kind c.args.store.now).portions c.args.place (sym c.in-None.ensures) in
-    absurd (omega (arith, past, c.requires.there))
+pub unwrap-requires : goal.unwrap-requires
+unwrap-requires g c = portion_there (g.K.Kind.means) (ledger_of g.K.Kind c.args.store.now).portions c.args.place _ c.requires.there c.portion.ensures

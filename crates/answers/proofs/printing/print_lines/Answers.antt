@@ -1,17 +1,19 @@
-use Rattle.std.proofs.Common.{map, subst, arith}
-use Rattle.std.proofs.lemmas.List.{get_or-map, length-map, take_all}
+use Rattle.std.proofs.Common.{rules}
+use Rattle.std.proofs.lemmas.Iterator.{YieldsList-from_map, YieldsList-from_slice}
+use Rattle.std.proofs.lemmas.Iterator.Consumers.{YieldsList-at, YieldsList-from_chain, YieldsList-from_copied}
 use Rattle.answers.specs.declared.kinds.Printed.TheVariants.{Line}
-use Rattle.answers.specs.Adds.{Added}
-use Rattle.answers.proofs.Adds.{adds_begun, begun_next, added_next}
+use Rattle.answers.proofs.Adds.{adds_begun, begun_at, added_all}
 use Rattle.answers.proofs.printing.print_lines.Goals as goal
 
 pub returns-in_err-print_line : goal.returns-in_err-print_line
 returns-in_err-print_line c =
     adds_begun c.from_residual.result _ _ _ c.from_residual.ensures.0
-    (begun_next (map Line c.args.lines.now) c.loop-line.line-index _ _ _ _ (simp length-map (omega arith)) (get_or-map Line c.args.lines.now c.loop-line.line-index _ _ c.loop-line-test.true) c.loop-line.invariant c.in_err-print_line.ensures)
-
-pub loop-line-preserved : goal.loop-line-preserved
-loop-line-preserved c = added_next (map Line c.args.lines.now) c.loop-line.line-index _ _ _ _ (simp length-map (omega arith)) (get_or-map Line c.args.lines.now c.loop-line.line-index _ _ c.loop-line-test.true) c.loop-line.invariant c.in_ok-print_line.ensures
+    (begun_at _ _ c.loop-line.yielded c.loop-line.yielded_by _ c.in-Some.line _ _ _ c.in-Some.is c.next.ensures.steps
+    (YieldsList-from_chain (YieldsList-at {t = c.map-settled.result} (cc) (YieldsList-from_map _ Line (YieldsList-from_slice c.args.lines.now cc) c.map-settled.ensures.closure (λ x r q k. search rules))) (YieldsList-from_copied (YieldsList-from_slice c.args.dues.now cc)) (cc) (cc))
+    c.loop-line.invariant c.in_err-print_line.ensures)
 
 pub returns : goal.returns
-returns c = subst (λ ps. Added ps c.args.out.now c.loop-line.out) (take_all c.loop-line.line-index (map Line c.args.lines.now) (simp length-map (omega arith))) c.loop-line.invariant
+returns c =
+    added_all _ _ c.loop-line.yielded c.loop-line.yielded_by _ _ _ c.in-None.is c.next.ensures.steps
+    (YieldsList-from_chain (YieldsList-at {t = c.map-settled.result} (cc) (YieldsList-from_map _ Line (YieldsList-from_slice c.args.lines.now cc) c.map-settled.ensures.closure (λ x r q k. search rules))) (YieldsList-from_copied (YieldsList-from_slice c.args.dues.now cc)) (cc) (cc))
+    c.loop-line.invariant

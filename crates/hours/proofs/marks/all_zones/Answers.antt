@@ -1,5 +1,5 @@
 use Rattle.std.proofs.Common.{sym, arith}
-use Rattle.hours.specs.Marks.{names_zone}
+use Rattle.hours.specs.Zones.{names_zone}
 use Rattle.hours.proofs.Each.{every_fails, every_goes_on, every_ends}
 use Rattle.hours.proofs.marks.all_zones.Goals as goal
 

@@ -2,5 +2,5 @@ use Rattle.portions.specs.Listed.{listed}
 use Rattle.portions.specs.Takes.{Serving}
 use Rattle.portions.proofs.oldest_first.take_oldest.Given as goal
 
-abbrev pub invariant-loop-i : goal.invariant-loop-i
-invariant-loop-i l = Serving (listed l.left) (listed l.takings) l.wanted l.i l.rest
+abbrev pub invariant-loop-amount : goal.invariant-loop-amount
+invariant-loop-amount l = Serving (listed l.left) (listed l.takings) l.wanted l.amount-index l.rest

@@ -1,7 +1,7 @@
 use Rattle.std.proofs.Common.{refl}
 use Rattle.settlement.specs.Billing.{billing}
 use Rattle.settlement.proofs.Billed.{billing_keeps}
-use Rattle.shelf.specs.Held.{room}
+use Rattle.store.specs.Held.{room}
 use Rattle.accounts.specs.Billed.{billed, bill_opening}
 use Rattle.accounts.proofs.Outcomes.{open_refused, open_accepted}
 use Rattle.accounts.proofs.Bills.{opened_bill}

@@ -1,7 +1,7 @@
 use Rattle.std.proofs.Common.{ℕ, length, ap, ◌∙◌, arith}
 use Rattle.portions.specs.Listed.{listed}
 use Rattle.ledger.specs.Ledger.{Ledger}
-use Rattle.shelf.proofs.Lawful.{lawful_rule}
+use Rattle.store.proofs.Lawful.{lawful_rule}
 use Rattle.settlement.specs.Billing.{billing}
 use Rattle.settlement.proofs.Billed.{billing_keeps}
 use Rattle.accounts.specs.Means.{deposit_kind, deposits}
@@ -30,8 +30,8 @@ write_lines-count-requires g c =
     let e = c.draw_store-used.ensures in
     let s = c.draw_store-used.new.store in
     let known = known_lefts rule b (deposits s) e.state in
-    let few = few_open deposit_kind s e.sound (ap (λ (l : Ledger ℕ). l.opened) e.state) in
-    record { sound = e.sound; known = omega (arith, known, ap length c.lefts-before.ensures); room = omega (arith, few, met.room) }
+    let few = few_open deposit_kind s in
+    record { known = omega (arith, known, ap length c.lefts-before.ensures); room = omega (arith, few, met.room) }
 
 pub returns : goal.returns
 returns g c =

@@ -10,13 +10,13 @@ use Rattle.accounts.proofs.metering.Metering.open.Goals as goal
 
 pub returns-in_err-period : goal.returns-in_err-period
 returns-in_err-period c =
-    let o = meter_opening (fewest c.args.self.now.stores) c.args.month c.args.power c.args.months in
+    let o = meter_opening (fewest c.args.self.now.meters.stores) c.args.month c.args.power c.args.months in
     let out = open_refused metering metering_keeps (metered c.args.self.now) o (or_monthly (period_of c.args.months)) _ c.in_err-period.ensures _ c.from_residual.ensures.1 in
     record { answer = out.answer; state = out.state; slots = (record { same = refl; lender = refl }, record { same = refl; lender = refl }, record { same = refl; lender = refl }); promised = out.promised }
 
 pub returns : goal.returns
 returns c =
-    let o = meter_opening (fewest c.args.self.now.stores) c.args.month c.args.power c.args.months in
-    let e = c.open_stores.ensures in
-    let out = open_accepted metering metering_keeps (metered c.args.self.now) o (or_monthly (period_of c.args.months)) _ c.in_ok-period.ensures _ (λ period. opened_meter o _ _ _ c.coefficient_of-self.ensures.value period e.state) in
+    let o = meter_opening (fewest c.args.self.now.meters.stores) c.args.month c.args.power c.args.months in
+    let e = c.open.ensures in
+    let out = open_accepted metering metering_keeps (metered c.args.self.now) o (or_monthly (period_of c.args.months)) _ c.in_ok-period.ensures _ (λ period. opened_meter o _ _ _ _ c.of_power-self.ensures period e.stores e.pending) in
     record { answer = out.answer; state = out.state; slots = e.slots; promised = out.promised }

@@ -13,6 +13,6 @@ returns-in_err-next c =
 pub returns : goal.returns
 returns c =
     let a = metered c.args.self.now in
-    let e = c.turn_stores-ended.ensures in
-    let out = turn_accepted metering metering_keeps a _ c.standing.ensures _ c.in_ok-next.ensures _ e.refunded e.lost _ (λ is_open next. turned_meter a _ _ is_open next e.state) in
+    let e = c.turn-ended.ensures in
+    let out = turn_accepted metering metering_keeps a _ c.standing.ensures _ c.in_ok-next.ensures _ e.refunded e.lost _ (λ is_open next. turned_meter a _ _ is_open _ next e.stores e.pending) in
     record { answer = out.answer; state = out.state; slots = e.slots; promised = out.promised }

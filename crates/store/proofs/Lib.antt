@@ -1,0 +1,11 @@
+pub mod Parts
+pub mod Rise
+mod Rising
+pub mod Lawful
+mod Read
+mod Accepted
+mod Admitted
+mod Entered
+mod Drawn
+mod Ended
+mod Turned

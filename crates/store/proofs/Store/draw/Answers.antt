@@ -1,0 +1,44 @@
+use Rattle.std.proofs.Common.{ap, ◌∙◌, rules}
+use Rattle.ledger.proofs.Keeps.{keeps_draw}
+use Rattle.store.specs.Reading.{kind_of, ledger_of}
+use Rattle.store.proofs.Lawful.{lawful, lawful_rule}
+use Rattle.store.proofs.Accepted.{accepted}
+use Rattle.store.proofs.Drawn.{drawn_sound, drawn_answer, drawn_after}
+use Rattle.store.proofs.Store.draw.Goals as goal
+
+pub returns-in_err-may_draw-clause-promised : goal.returns-in_err-may_draw-clause-promised
+returns-in_err-may_draw-clause-promised g c =
+    let laws = g.met.K.Kind in
+    let r = c.args.rule.now in
+    let rule = g.met.R.Rule in
+    keeps_draw (kind_of g.K.Kind) (lawful g.K.Kind laws.lasting laws.short laws.within) _ _ _ (lawful_rule (g.R.Rule.gives r) (rule.sized r) (rule.bounded r) (rule.full r)) _ _ (search rules) (search rules)
+
+pub invariant_of-self : goal.invariant_of-self
+invariant_of-self g c =
+    let s = c.args.self.now in
+    let r = c.args.rule.now in
+    let rule = g.met.R.Rule in
+    let gives = g.R.Rule.gives r in
+    let gave = c.give-takings.ensures ∙ ap (λ ls. gives s.month ls c.args.wanted) c.lefts-left.ensures in
+    let e = c.take_each.ensures in
+    record {
+      sound =
+          drawn_sound s gives (lawful_rule gives (rule.sized r) (rule.bounded r) (rule.full r)) c.args.wanted _ gave _ c.total-sum.ensures c.take_each.new.self e.front e.long _ c.add_used.ensures;
+    }
+
+pub returns-clause-promised : goal.returns-clause-promised
+returns-clause-promised g c =
+    let laws = g.met.K.Kind in
+    let s = c.args.self.now in
+    let l = ledger_of g.K.Kind s in
+    let r = c.args.rule.now in
+    let rule = g.met.R.Rule in
+    let gives = g.R.Rule.gives r in
+    let lawful_gives = lawful_rule gives (rule.sized r) (rule.bounded r) (rule.full r) in
+    let w = c.args.wanted in
+    let gave = c.give-takings.ensures ∙ ap (λ ls. gives s.month ls w) c.lefts-left.ensures in
+    let e = c.take_each.ensures in
+    let none = accepted _ _ _ c.in_ok-may_draw.ensures in
+    let answer = drawn_answer s gives lawful_gives w _ gave _ c.total-sum.ensures c.take_each.new.self e.front none in
+    let state = drawn_after s gives lawful_gives w _ gave _ c.total-sum.ensures c.take_each.new.self e.front none _ c.add_used.ensures in
+    keeps_draw (kind_of g.K.Kind) (lawful g.K.Kind laws.lasting laws.short laws.within) l _ gives lawful_gives w _ answer state

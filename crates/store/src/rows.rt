@@ -1,0 +1,15 @@
+ghost use Rattle.std.specs.Prelude.{◌≤◌, length};
+
+use portions::Slot;
+
+mod calls;
+mod passes;
+
+// The caller's slots, of which the first `filled` are in use.
+#[derive(Drop)]
+pub struct Rows<'a> {
+    pub(crate) slots: &'a mut [Slot],
+    pub(crate) filled: usize,
+    ghost within: { filled ≤ length slots.now },
+    ghost few: { filled ≤ 16 },
+}
