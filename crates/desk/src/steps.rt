@@ -17,6 +17,7 @@ use crate::step_fault::StepFault;
 use accounts::{Billing, Metering};
 use answers::Answer;
 use faults::{BookFault, ProgramFault};
+use hours::{Reading, Tariff};
 use records::{Record, price_list};
 use settlement::Line;
 use std::alloc::Global;
@@ -41,15 +42,15 @@ impl<'a> Desk<'a> {
     }
 
     // Opens a book for the account's month, where no book is open.
-    fn open_book(&mut self, marks: [[u8; 24]; 2], sale: [u32; 3]) -> Result<(), ProgramFault>
-        ensures came { (s : State) → Means self.old s → Came (book_step (book_opened marks sale) s) (nothing_said result) (Means self.new) }
+    fn open_book(&mut self, tariff: Tariff) -> Result<(), ProgramFault>
+        ensures came { (s : State) → Means self.old s → Came (book_step (book_opened tariff.marks tariff.sale) s) (nothing_said result) (Means self.new) }
         ensures slots { slots_of self.new.accounts ≡ slots_of self.old.accounts }
     {
         let month = self.accounts.month()?;
         if self.book.is_some() {
             return Err(ProgramFault::OutOfPlace);
         }
-        self.book = Some(OpenBook::open(month, marks, sale)?);
+        self.book = Some(OpenBook::open(month, tariff)?);
         Ok(())
     }
 
@@ -87,11 +88,11 @@ impl<'a> Desk<'a> {
     }
 
     // Takes a reading.
-    fn read(&mut self, import: u32, export: u32) -> Result<(), ProgramFault>
-        ensures came { (s : State) → Means self.old s → Came (book_step (change (hour_refusal import export) (with_next_hour import export)) s) (nothing_said result) (Means self.new) }
+    fn read(&mut self, reading: Reading) -> Result<(), ProgramFault>
+        ensures came { (s : State) → Means self.old s → Came (book_step (change (hour_refusal reading.import reading.export) (with_next_hour reading.import reading.export)) s) (nothing_said result) (Means self.new) }
         ensures slots { slots_of self.new.accounts ≡ slots_of self.old.accounts }
     {
-        self.change_book(|open| open.read(import, export))
+        self.change_book(|open| open.read(reading))
     }
 
     // Finishes the open book and enters its sums; the book is gone, also where the account refuses them.
@@ -131,10 +132,10 @@ impl<'a> Desk<'a> {
             Record::OpenBilling { month, percentage } => {
                 self.accounts.open_billing(month, percentage)?
             }
-            Record::OpenBook { marks, sale } => self.open_book(marks, sale)?,
+            Record::OpenBook { marks, sale } => self.open_book(Tariff { marks, sale })?,
             Record::MonthPrice(price) => self.set_month_price(price)?,
             Record::HourPrices(bytes) => self.set_hour_prices(price_list(heap, bytes)?)?,
-            Record::Reading { import, export } => self.read(import, export)?,
+            Record::Reading { import, export } => self.read(Reading { import, export })?,
             Record::Finish => self.finish()?,
             Record::Settle => return Ok(self.accounts.settle(lines)?),
             Record::Turn => return Ok(self.accounts.turn()?),
