@@ -74,17 +74,14 @@ impl OpenBook {
             book,
             prices,
         } = self;
-        match book.finish() {
-            Ok(sums) => Ok(sums),
-            Err(unfinished) => {
-                let Unfinished { fault, book } = unfinished;
-                let open = OpenBook {
-                    month,
-                    book,
-                    prices,
-                };
-                Err(Incomplete { fault, open })
-            }
-        }
+        book.finish().map_err(|unfinished| {
+            let Unfinished { fault, book } = unfinished;
+            let open = OpenBook {
+                month,
+                book,
+                prices,
+            };
+            Incomplete { fault, open }
+        })
     }
 }

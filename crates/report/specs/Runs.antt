@@ -26,6 +26,11 @@ pub record Entry : Type 0 where
 abbrev pub says : List ℕ → Read
 says bytes = decoded (head_kind bytes) (drop 4 bytes)
 
+-- what a record says that was found in a file, or that the file ends in it
+abbrev pub read_of : Result Framed ProgramFault → Read
+read_of (Ok f) = decoded f.kind f.payload
+read_of (Err fault) = Err fault
+
 -- what comes of what a record says: a malformed one is refused
 abbrev pub handled : State → Read → Outcome State
 handled s (Ok said) = taken program_memory s said
