@@ -5,6 +5,12 @@ use calendar::Month;
 use hours::{MonthPrice, Reading, Tariff, Totals, sum_month};
 use std::alloc::{AllocError, Global};
 
+// An hour in which nothing was taken or given.
+pub(crate) const QUIET: Reading = Reading {
+    import: 0,
+    export: 0,
+};
+
 // The totals of a month, zone by zone, and its value and charge.
 fn show_totals(rt: &HostRuntime, figure: Figure<'_>, totals: Totals) -> anyhow::Result<()> {
     let [i1, i2, i3] = totals.import;
@@ -21,12 +27,7 @@ fn show_totals(rt: &HostRuntime, figure: Figure<'_>, totals: Totals) -> anyhow::
 // Working days are in zone 1, Saturdays and Sundays in zone 3; the sale prices are 600,000, 0 and 500,000 gr per MWh.
 fn february(heap: Global, first: &[Reading], price: i32) -> anyhow::Result<Totals> {
     let mut readings = Vec::from_slice(heap, first)?;
-    for _ in first.len()..696 {
-        readings.push(Reading {
-            import: 0,
-            export: 0,
-        })?;
-    }
+    readings.resize(696, QUIET)?;
     let mut source = MonthPrice::new(97, price).map_err(|_| anyhow!("the price is refused"))?;
     let tariff = Tariff {
         marks: [[1; 24], [3; 24]],

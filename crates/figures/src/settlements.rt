@@ -1,5 +1,6 @@
 // Worked figures of settlements.
 use crate::Figure;
+use crate::months::QUIET;
 use accounts::{Billing, Metering};
 use anyhow::{Context, anyhow};
 use hours::{MonthPrice, MonthSums, Reading, Tariff, sum_month};
@@ -41,12 +42,7 @@ fn readings_of(heap: Global, used: Use) -> Result<Vec<Reading>, AllocError> {
     let mut readings = Vec::new(heap);
     push_days(&mut readings, used.working)?;
     push_days(&mut readings, used.weekend)?;
-    for _ in 0..600 {
-        readings.push(Reading {
-            import: 0,
-            export: 0,
-        })?;
-    }
+    readings.resize(696, QUIET)?;
     Ok(readings)
 }
 
