@@ -16,6 +16,8 @@ pub struct Month {
     change: u8,
     ghost dated: { number < 1200 },
     ghost long: { hours ≡ month_hours number },
+    ghost season: { hours + 24 ≡ 24 * days_of_month number + hours_at_change (number % 12) },
+    ghost bounds: { (671 ≤ hours) × (hours ≤ 745) },
     ghost begins: { first ≡ weekday number 0 },
     ghost last: { T (is_last_sunday number sunday) },
     ghost inside: { sunday < days_of_month number },

@@ -17,7 +17,7 @@ pub struct Hour {
 
 impl Month {
     // The month of a number, with all that it keeps.
-    #[tactic(auto, using(crate::proofs::Hours::total))]
+    #[tactic(auto, using(crate::proofs::Hours::total, crate::proofs::Hours::total_bounds))]
     fn of_number(number: MonthNumber) -> Month
         ensures { result.number ≡ number.value }
     {
@@ -58,7 +58,6 @@ impl Month {
     }
 
     // The hours of the month: 24 a day, but one less in March and one more in October.
-    #[tactic(auto, using(crate::proofs::Hours::total, crate::proofs::Hours::total_bounds))]
     pub fn hours(&self) -> u16
         ensures value { result ≡ month_hours self.now.number }
         ensures season { result + 24 ≡ 24 * days_of_month self.now.number + hours_at_change (self.now.number % 12) }
@@ -92,7 +91,6 @@ impl Month {
     }
 
     // The hour at a place inside the month.
-    #[tactic(auto, using(crate::proofs::Hours::total_bounds))]
     fn hour_inside(&self, place: u16) -> Hour
         requires { place < month_hours self.now.number }
         ensures value { result ≡ hour_of_place self.now.number place }

@@ -26,14 +26,17 @@ struct Balance {
 }
 
 impl Reading {
-    // The difference import − export, split by its sign.
+    // The difference import − export, a signed number, split by its sign.
     fn balance(self) -> Balance
+        requires import { self.import ≤ 100000 }
+        requires export { self.export ≤ 100000 }
         ensures taken { result.taken ≡ self.import - self.export }
         ensures given { result.given ≡ self.export - self.import }
     {
+        let difference = self.import as i32 - self.export as i32;
         Balance {
-            taken: self.import.saturating_sub(self.export),
-            given: self.export.saturating_sub(self.import),
+            taken: u32::try_from(difference).unwrap_or(0),
+            given: u32::try_from(-difference).unwrap_or(0),
         }
     }
 }
