@@ -104,7 +104,7 @@ account_of a = account_in a.opened (metering.metered a.metering) (billing.billed
 
 -- the slots of each store of a metering account, and those of a billing account
 abbrev pub slots_of : Accounts → ℕ × ℕ
-slots_of a = (fewest a.metering.stores, room a.billing.store)
+slots_of a = (fewest a.metering.meters.stores, room a.billing.store)
 
 -- what needs an open account is out of place where there is none
 abbrev pub in_place : {X : Type 0} → Option X → Result X ProgramFault
@@ -134,7 +134,7 @@ lines_written (Err fault) = 0
 
 -- the memory that a step works in, with room for so many lines
 abbrev pub memory_of : Desk → ℕ → Memory
-memory_of d lines = record { meter_slots = fewest d.accounts.metering.stores; bill_slots = room d.accounts.billing.store; lines = lines }
+memory_of d lines = record { meter_slots = fewest d.accounts.metering.meters.stores; bill_slots = room d.accounts.billing.store; lines = lines }
 
 -- the code's desk stands at s
 pub record Means (d : Desk) (s : State) : Type 0 where

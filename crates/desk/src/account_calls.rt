@@ -53,7 +53,7 @@ impl<'a> Accounts<'a> {
     // Two accounts of which none is open.
     pub(crate) fn new(metering: Metering<'a>, billing: Billing<'a>) -> Accounts<'a>
         ensures none { account_of result ≡ none }
-        ensures slots { slots_of result ≡ (fewest metering.entry.stores, room billing.entry.store) }
+        ensures slots { slots_of result ≡ (fewest metering.entry.meters.stores, room billing.entry.store) }
     {
         Accounts {
             opened: None,
@@ -80,7 +80,7 @@ impl<'a> Accounts<'a> {
         power: u32,
         period: u8,
     ) -> Result<(), ProgramFault>
-        ensures came { AccountCame (metering_opened (meter_opening (fewest self.old.metering.stores) month power period) (account_of self.old)) (nothing_said result) (account_of self.new) }
+        ensures came { AccountCame (metering_opened (meter_opening (fewest self.old.metering.meters.stores) month power period) (account_of self.old)) (nothing_said result) (account_of self.new) }
         ensures slots { slots_of self.new ≡ slots_of self.old }
     {
         if self.opened.is_some() {

@@ -33,7 +33,7 @@ impl<'a> Desk<'a> {
     // A desk before the first record: no account is open, and no book.
     pub fn new(metering: Metering<'a>, billing: Billing<'a>) -> Desk<'a>
         ensures means { Means result outset }
-        ensures slots { slots_of result.accounts ≡ (fewest metering.entry.stores, room billing.entry.store) }
+        ensures slots { slots_of result.accounts ≡ (fewest metering.entry.meters.stores, room billing.entry.store) }
     {
         Desk {
             accounts: Accounts::new(metering, billing),

@@ -10,14 +10,6 @@ use portions::Slot;
 use records::Frames;
 use std::alloc::{AllocError, Global};
 
-// A slot that nothing was written into.
-const UNUSED: Slot = Slot {
-    month: 0,
-    entered: 0,
-    left: 0,
-    terms: 0,
-};
-
 // Runs over the records of the input, at a desk that nothing was done at.
 fn run(heap: Global, work: &mut Workplace<'_>, input: &[u8]) -> Result<String, AllocError>
     requires { Means work.old.desk outset }
@@ -40,10 +32,10 @@ pub fn report(heap: Global, input: &[u8]) -> Result<String, AllocError>
     ensures refused_alone { RefusedAlone input.now }
     ensures promises_kept { PromisesKept input.now }
 {
-    let mut first = [UNUSED; SLOTS];
-    let mut second = [UNUSED; SLOTS];
-    let mut third = [UNUSED; SLOTS];
-    let mut deposits = [UNUSED; SLOTS];
+    let mut first = [Slot::default(); SLOTS];
+    let mut second = [Slot::default(); SLOTS];
+    let mut third = [Slot::default(); SLOTS];
+    let mut deposits = [Slot::default(); SLOTS];
     let mut work = Workplace::over(&mut first, &mut second, &mut third, &mut deposits);
     run(heap, &mut work, input)
 }

@@ -3,7 +3,7 @@ ghost use Rattle.std.specs.Prelude.{◌≡◌, ◌++◌, ◌⊎◌, ◌≢◌, [
 ghost use Rattle.records.specs.Frames.{found};
 ghost use Rattle.desk.specs.State.{State, outset};
 ghost use Rattle.desk.specs.Means.{Means, memory_of};
-ghost use Rattle.report.specs.Runs.{answer_text, handled, program_memory, read_of};
+ghost use Rattle.report.specs.Runs.{answer_text, comes, program_memory, read_of};
 ghost use Rattle.report.specs.Laws.{Handled, ReadsPrices};
 
 use accounts::{Billing, Metering};
@@ -19,15 +19,7 @@ use std::alloc::{AllocError, Global};
 pub(crate) const SLOTS: usize = 13;
 
 // The room for the lines of a settlement: so many for each of three stores.
-const LINES: usize = 39;
-
-// A line that nothing was written into.
-const BLANK: Line = Line {
-    zone: 0,
-    month: 0,
-    used: 0,
-    left: 0,
-};
+const LINES: usize = 3 * SLOTS;
 
 // A desk with slots for its stores, and room for lines.
 #[derive(Drop)]
@@ -51,7 +43,7 @@ impl<'a> Workplace<'a> {
         let billing = Billing::over(deposits);
         Workplace {
             desk: Desk::new(metering, billing),
-            lines: [BLANK; LINES],
+            lines: [Line::default(); LINES],
         }
     }
 
@@ -75,9 +67,9 @@ impl<'a> Workplace<'a> {
         out: &mut String,
         placed: Placed<'_>,
     ) -> Result<(), AllocError>
-        ensures text { (s : State) → Means self.old.desk s → OnOk result (string_bytes out.new ≡ string_bytes out.old ++ answer_text placed.entry.place (handled s (read_of (found placed.entry.frame))).answer) }
-        ensures stands { (s : State) → Means self.old.desk s → OnOk result (Means self.new.desk (handled s (read_of (found placed.entry.frame))).after) }
-        ensures wanting { (s : State) → Means self.old.desk s → OnErr result ((answer_text placed.entry.place (handled s (read_of (found placed.entry.frame))).answer ≢ []) ⊎ ReadsPrices (read_of (found placed.entry.frame))) }
+        ensures text { (s : State) → Means self.old.desk s → OnOk result (string_bytes out.new ≡ string_bytes out.old ++ answer_text placed.entry.place (comes s placed.entry).answer) }
+        ensures stands { (s : State) → Means self.old.desk s → OnOk result (Means self.new.desk (comes s placed.entry).after) }
+        ensures wanting { (s : State) → Means self.old.desk s → OnErr result ((answer_text placed.entry.place (comes s placed.entry).answer ≢ []) ⊎ ReadsPrices (read_of (found placed.entry.frame))) }
     {
         match self.step(heap, placed.frame) {
             Ok(answer) => print_answer(out, &answer, &self.lines),

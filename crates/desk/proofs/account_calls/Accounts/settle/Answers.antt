@@ -38,6 +38,15 @@ returns-in_ok-settlement-in-Some-Metering-clause-lines c =
     let e = accepted_none _ _ _ a.answer in
     other_lines _ _ _ _ (ap (λ (s : Settlement). s.lines) e.1) (changes _ _ _ _ e.0 a.lines)
 
+pub returns-in_err-payment-in-Some-Billing-clause-came : goal.returns-in_err-payment-in-Some-Billing-clause-came
+returns-in_err-payment-in-Some-Billing-clause-came c =
+    let p = err_from_is_err_and c.from_residual-in_err-payment-in-Some-Billing.result c.from_residual-in_err-payment-in-Some-Billing.ensures.1 in
+    let a = c.in_err-payment-in-Some-Billing.ensures in
+    let e = refused_some _ _ _ a.answer in
+    let sort = rw c.in-Some-Billing.is at c.in-Some-Billing.field-0-is in
+    let opened = c.in-Some-Billing.is ∙ ap Some sort in
+    on_billing (account_settled _) _ _ _ _ _ _ opened (refused_came _ _ _ _ _ _ _ e (ap (said_with _) p.1 ∙ ap Err p.2) (ap billed (stays _ _ _ _ _ e a.state)))
+
 pub returns-in_ok-payment-in-Some-Billing-clause-came : goal.returns-in_ok-payment-in-Some-Billing-clause-came
 returns-in_ok-payment-in-Some-Billing-clause-came c =
     let a = c.in_ok-payment-in-Some-Billing.ensures in
