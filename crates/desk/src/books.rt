@@ -51,10 +51,7 @@ pub(crate) fn set_hour_prices(
 }
 
 // Reads the next hour into the open book.
-pub(crate) fn read_hour(
-    book: &mut Option<OpenBook>,
-    reading: Reading,
-) -> Result<(), ProgramFault>
+pub(crate) fn read_hour(book: &mut Option<OpenBook>, reading: Reading) -> Result<(), ProgramFault>
     ensures { (month : ℕ) (s : Option BookState) → BookHolds book.old s → BookCame (change (hour_refusal reading.import reading.export) (with_next_hour reading.import reading.export) month s) (nothing_said result) book.new }
 {
     let Some(open) = book else {
