@@ -15,19 +15,22 @@ use Rattle.settlement.specs.Billing.{BillAccount, BillOpening, opening, entering
 abbrev pub account : Bool → ℕ → MonthState → ℕ → Ledger ℕ → BillAccount
 account opened percentage state bill store = record { opened = opened; percentage = percentage; state = state; bill = bill; store = store }
 
-pub opened_bill : (o : BillOpening) (store : Ledger ℕ) → store ≡ ledger.opening o.month → account true o.percentage Waiting 0 store ≡ opening o
-opened_bill o store e = ap (account true o.percentage Waiting 0) e
+pub opened_bill : (o : BillOpening) (store : Ledger ℕ) → store ≡ ledger.opening o.month → account store.opened o.percentage Waiting 0 store ≡ opening o
+opened_bill o store e = ap (λ (l : Ledger ℕ). account l.opened o.percentage Waiting 0 l) e
 
-module _ (b : BillAccount) (next : MonthState) (store : Ledger ℕ) (is_open : b.opened ≡ true) where
+module _ (b : BillAccount) (next : MonthState) (store : Ledger ℕ) where
   pub entered_bill : (sums : MonthSums) (bill amount top : ℕ) → next ≡ Entered → bill ≡ month_bill sums → amount ≡ month_deposit sums → top ≡ month_cap b.percentage sums →
-      store ≡ entering amount top b.store → account b.opened b.percentage next bill store ≡ entering_bill sums b
-  entered_bill sums bill amount top n e f g s = cc
+      store ≡ entering amount top b.store → account store.opened b.percentage next bill store ≡ entering_bill sums b
+  entered_bill sums bill amount top n e f g s =
+      let is_open = ap (λ (l : Ledger ℕ). l.opened) s in cc
 
-  pub paid_bill : (rule : Rule) → next ≡ Settled → store ≡ drawing (paid rule b) b.store → account b.opened b.percentage next 0 store ≡ settling_bill rule b
-  paid_bill rule n s = cc
+  pub paid_bill : (rule : Rule) → next ≡ Settled → store ≡ drawing (paid rule b) b.store → account store.opened b.percentage next 0 store ≡ settling_bill rule b
+  paid_bill rule n s =
+      let is_open = ap (λ (l : Ledger ℕ). l.opened) s in cc
 
-  pub turned_bill : next ≡ Waiting → store ≡ turning deposit b.store → account b.opened b.percentage next b.bill store ≡ turning_bill b
-  turned_bill n s = cc
+  pub turned_bill : next ≡ Waiting → store ≡ turning deposit b.store → account store.opened b.percentage next b.bill store ≡ turning_bill b
+  turned_bill n s =
+      let is_open = ap (λ (l : Ledger ℕ). l.opened) s in cc
 
 -- the answer of a settlement, from its parts
 pub payment_is : (rule : Rule) (b : BillAccount) (used lines : ℕ) → used ≡ sum (paid rule b) → lines ≡ length (bill_lines rule b) →

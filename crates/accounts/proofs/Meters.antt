@@ -23,13 +23,13 @@ Ledgers = Zones (Ledger (Unit {0}))
 abbrev pub account : Bool → ℕ → Period → MonthState → Zones ℕ → Ledgers → MeterAccount
 account opened coefficient period state pending stores = record { opened = opened; coefficient = coefficient; period = period; state = state; pending = pending; stores = stores }
 
-pub opened_meter : (o : MeterOpening) (c : ℕ) (period : Period) (stores : Ledgers) (pending : Zones ℕ) → c ≡ coefficient_for o.power → period ≡ or_monthly (period_of o.months) → stores ≡ all (ledger.opening o.month) → pending ≡ all 0 →
-    account true c period Waiting pending stores ≡ opening o
-opened_meter o c period stores pending e f g h = cc
+pub opened_meter : (o : MeterOpening) (c : ℕ) (period : Period) (opened : Bool) (stores : Ledgers) (pending : Zones ℕ) → opened ≡ true → c ≡ coefficient_for o.power → period ≡ or_monthly (period_of o.months) → stores ≡ all (ledger.opening o.month) → pending ≡ all 0 →
+    account opened c period Waiting pending stores ≡ opening o
+opened_meter o c period opened stores pending i e f g h = cc
 
-module _ (a : MeterAccount) (next : MonthState) (stores : Ledgers) (is_open : a.opened ≡ true) where
+module _ (a : MeterAccount) (next : MonthState) (opened : Bool) (stores : Ledgers) (is_open : opened ≡ true) where
   abbrev with_stores : Zones ℕ → Ledgers → MeterAccount
-  with_stores pending s = account a.opened a.coefficient a.period next pending s
+  with_stores pending s = account opened a.coefficient a.period next pending s
 
   pub entered_meter : (sums : MonthSums) (exports imports pending : Zones ℕ) → next ≡ Entered → exports ≡ split_by_zone sums.totals.export → imports ≡ split_by_zone sums.totals.import → pending ≡ each_two ◌+◌ a.pending imports →
       stores ≡ each_two (λ amount store. entering amount tt store) exports a.stores → with_stores pending stores ≡ entering_meter sums a
@@ -37,20 +37,20 @@ module _ (a : MeterAccount) (next : MonthState) (stores : Ledgers) (is_open : a.
       let p' = p ∙ ap (each_two ◌+◌ a.pending) i in
       let s' = s ∙ ap (λ e. each_two (λ amount store. entering amount tt store) e a.stores) x in
       ap (λ q. with_stores q stores) p' ∙ ap (with_stores (entering_meter sums a).pending) s'
-      ∙ ap (λ n'. account a.opened a.coefficient a.period n' (entering_meter sums a).pending (entering_meter sums a).stores) n
+      ∙ ap (λ n'. account opened a.coefficient a.period n' (entering_meter sums a).pending (entering_meter sums a).stores) n
       ∙ ap (λ b. account b a.coefficient a.period Entered (entering_meter sums a).pending (entering_meter sums a).stores) is_open
 
   pub turned_meter : (pending : Zones ℕ) → next ≡ Waiting → stores ≡ each (turning energy) a.stores → pending ≡ a.pending → with_stores pending stores ≡ turning_meter a
   turned_meter pending n s p =
       ap (λ q. with_stores q stores) p
       ∙ ap (with_stores a.pending) s
-      ∙ ap (λ n'. account a.opened a.coefficient a.period n' a.pending (turning_meter a).stores) n
+      ∙ ap (λ n'. account opened a.coefficient a.period n' a.pending (turning_meter a).stores) n
       ∙ ap (λ b. account b a.coefficient a.period Waiting a.pending (turning_meter a).stores) is_open
 
 module _ (rule : Rule) (a : MeterAccount) (end : Course) (is : end ≡ settled_course rule a) where
-  pub settled_meter : (next : MonthState) (pending : Zones ℕ) → a.opened ≡ true → next ≡ Settled → pending ≡ all 0 → account a.opened a.coefficient a.period next pending end.stores ≡ settling_meter rule a
-  settled_meter next pending is_open n p =
-      ap (λ q. account a.opened a.coefficient a.period next q end.stores) p
+  pub settled_meter : (next : MonthState) (opened : Bool) (pending : Zones ℕ) → opened ≡ true → next ≡ Settled → pending ≡ all 0 → account opened a.coefficient a.period next pending end.stores ≡ settling_meter rule a
+  settled_meter next opened pending is_open n p =
+      ap (λ q. account opened a.coefficient a.period next q end.stores) p
       ∙ ap (λ b. account b a.coefficient a.period next (all 0) end.stores) is_open
       ∙ ap (λ n'. account true a.coefficient a.period n' (all 0) end.stores) n
       ∙ ap (λ (x : Course). account true a.coefficient a.period Settled (all 0) x.stores) is

@@ -6,7 +6,7 @@ use Rattle.accounts.specs.Means.{deposits}
 
 -- what it means, with its store read as a ledger
 abbrev pub billed : Billing → BillAccount
-billed b = record { opened = b.opened; percentage = b.percentage; state = b.state; bill = b.bill; store = deposits b.store }
+billed b = record { opened = (deposits b.store).opened; percentage = b.percentage; state = b.state; bill = b.bill; store = deposits b.store }
 
 -- what it is opened for
 abbrev pub bill_opening : (slots month percentage : ℕ) → BillOpening

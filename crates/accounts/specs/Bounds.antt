@@ -11,9 +11,11 @@ use Rattle.accounts.specs.Means.{EnergyStore, energies}
 abbrev pub Within : ℕ → Zones ℕ → Type 0
 Within n e = (e.one ≤ n) × (e.two ≤ n) × (e.three ≤ n)
 
--- the stores have one month
+-- the stores are open together, and have one month
 abbrev pub Together : Zones EnergyStore → Type 0
-Together s = ((energies s.two).month ≡ (energies s.one).month) × ((energies s.three).month ≡ (energies s.one).month)
+Together s =
+    ((energies s.two).opened ≡ (energies s.one).opened) × ((energies s.three).opened ≡ (energies s.one).opened) ×
+    ((energies s.two).month ≡ (energies s.one).month) × ((energies s.three).month ≡ (energies s.one).month)
 
 -- what is pending is at most what its months can have brought
 abbrev pub Few : MonthState → Period → Zones EnergyStore → Zones ℕ → Type 0
@@ -27,9 +29,9 @@ FreeIn l = has l.month l.portions ≡ false
 abbrev pub Free : Zones EnergyStore → Type 0
 Free s = FreeIn (energies s.one) × FreeIn (energies s.two) × FreeIn (energies s.three)
 
--- each store is open
+-- the stores, which are together, are open
 abbrev pub Ready : Zones EnergyStore → Type 0
-Ready s = ((energies s.one).opened ≡ true) × ((energies s.two).opened ≡ true) × ((energies s.three).opened ≡ true)
+Ready s = (energies s.one).opened ≡ true
 
 -- there is an amount for each portion of each store
 abbrev pub Known : Zones (List ℕ) → Zones (Ledger (Unit {0})) → Type 0

@@ -13,7 +13,7 @@ course m = record { stores = each energies m.stores; rests = m.pending }
 
 -- what it means, with its stores read as ledgers
 abbrev pub metered : Metering → MeterAccount
-metered m = record { opened = m.opened; coefficient = tenths m.coefficient; period = m.period; state = m.state; pending = m.meters.pending; stores = each energies m.meters.stores }
+metered m = record { opened = (energies m.meters.stores.one).opened; coefficient = tenths m.coefficient; period = m.period; state = m.state; pending = m.meters.pending; stores = each energies m.meters.stores }
 
 -- what it is opened for
 abbrev pub meter_opening : (slots month power months : ℕ) → MeterOpening

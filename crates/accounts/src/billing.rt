@@ -1,4 +1,4 @@
-ghost use Rattle.std.specs.Prelude.{◌≡◌, ◌≤◌, true};
+ghost use Rattle.std.specs.Prelude.{◌≡◌, ◌≤◌};
 ghost use Rattle.settlement.specs.declared.states.MonthState.TheVariants.{Waiting};
 ghost use Rattle.accounts.specs.Means.{deposits};
 ghost use Rattle.accounts.specs.Bounds.{FreeIn};
@@ -19,9 +19,7 @@ pub struct Billing<'a> {
     bill: u32,
     percentage: u8,
     state: MonthState,
-    opened: bool,
     ghost share: { percentage ≤ 100 },
     ghost few: { bill ≤ 74500000 },
     ghost free: { state ≡ Waiting → FreeIn (deposits store) },
-    ghost ready: { opened ≡ true → (deposits store).opened ≡ true },
 }

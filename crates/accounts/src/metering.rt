@@ -1,6 +1,6 @@
-ghost use Rattle.std.specs.Prelude.{◌≡◌, ◌≤◌, true};
+ghost use Rattle.std.specs.Prelude.{◌≡◌, ◌≤◌};
 ghost use Rattle.settlement.specs.declared.states.MonthState.TheVariants.{Waiting};
-ghost use Rattle.accounts.specs.Bounds.{Few, Free, Ready, Together, Within};
+ghost use Rattle.accounts.specs.Bounds.{Few, Free, Together, Within};
 
 use coefficient::Coefficient;
 use portions::energy::Energy;
@@ -29,8 +29,6 @@ pub struct Metering<'a> {
     coefficient: Coefficient,
     period: Period,
     state: MonthState,
-    opened: bool,
     ghost few: { Few state period meters.stores meters.pending },
     ghost free: { state ≡ Waiting → Free meters.stores },
-    ghost ready: { opened ≡ true → Ready meters.stores },
 }

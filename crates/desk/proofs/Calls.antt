@@ -1,5 +1,7 @@
 -- Calls on an account, accepted or refused.
 use Rattle.std.proofs.Common.{◌≡◌, ℕ, min, Bool, List, length, take, drop, Some, None, Ok, Err, Option, Result, sym, refl, ap, ◌∙◌, subst, arith}
+use Rattle.std.proofs.lemmas.Result.{err_from_is_err_and}
+use Rattle.std.specs.Result.{MatchResult, IsErrAnd}
 use lib.Seq.{take-append_seam, drop-append_seam}
 use Rattle.faults.specs.declared.AccountFault.{AccountFault}
 use Rattle.faults.specs.declared.ProgramFault.{ProgramFault}
@@ -9,7 +11,7 @@ use Rattle.settlement.specs.declared.answers.Returned.{Returned}
 use Rattle.settlement.specs.Answers.{answers, becomes}
 use Rattle.settlement.specs.Steps.{hands_back}
 use Rattle.answers.specs.Said.{Said}
-use Rattle.answers.specs.Said.Said.{settled, paid}
+use Rattle.answers.specs.Said.Said.{nothing, settled, paid}
 use Rattle.settlement.specs.declared.answers.Settlement.{Settlement}
 use Rattle.settlement.specs.declared.answers.Payment.{Payment}
 use Rattle.portions.specs.declared.Slot.{Slot}
@@ -21,12 +23,12 @@ use Rattle.settlement.specs.Metering.{MeterAccount}
 use Rattle.settlement.specs.Billing.{BillAccount}
 use Rattle.accounts.specs.Means.{EnergyStore, fewest}
 use Rattle.accounts.specs.Slots.{EachSame, EachAccounted}
-use Rattle.desk.specs.declared.account_calls.Opened.{Opened}
-use Rattle.desk.specs.declared.account_calls.Opened.TheVariants.{Neither, Metering, Billing}
+use Rattle.desk.specs.declared.account_calls.Sort.{Sort}
+use Rattle.desk.specs.declared.account_calls.Sort.TheVariants.{Metering, Billing}
 use Rattle.desk.specs.State.{Account}
 use Rattle.desk.specs.State.Account.{none, metered, billed}
 use Rattle.desk.specs.Outcome.{Outcome, by_account}
-use Rattle.desk.specs.Means.{AccountCame, account_of}
+use Rattle.desk.specs.Means.{AccountCame, account_in, nothing_said}
 
 module _ {V : Type 0} where
   -- an accepted call has no refusal
@@ -57,19 +59,19 @@ module _ {X : Type 0} (o : Option AccountFault) (old : X) (said : Said) (new : X
   accepted_came e er ex = (ap (λ p. (by_account p old said new).answer) e ∙ sym er, ap (λ p. (by_account p old said new).after) e ∙ sym ex)
 
 -- a call that only a metering account had, said of the account that is open
-pub on_metering : (does : Account → Outcome Account) (w : Opened) (m m' : MeterAccount) (b b' : BillAccount) (r : Result Said ProgramFault) → w ≡ Metering →
-    AccountCame (does (metered m)) r (metered m') → AccountCame (does (account_of w m b)) r (account_of w m' b')
-on_metering does w m m' b b' r e came = subst (λ (v : Opened). AccountCame (does (account_of v m b)) r (account_of v m' b')) (sym e) came
+pub on_metering : (does : Account → Outcome Account) (w : Option Sort) (m m' : MeterAccount) (b b' : BillAccount) (r : Result Said ProgramFault) → w ≡ Some Metering →
+    AccountCame (does (metered m)) r (metered m') → AccountCame (does (account_in w m b)) r (account_in w m' b')
+on_metering does w m m' b b' r e came = subst (λ (v : Option Sort). AccountCame (does (account_in v m b)) r (account_in v m' b')) (sym e) came
 
 -- the same of a billing account
-pub on_billing : (does : Account → Outcome Account) (w : Opened) (m m' : MeterAccount) (b b' : BillAccount) (r : Result Said ProgramFault) → w ≡ Billing →
-    AccountCame (does (billed b)) r (billed b') → AccountCame (does (account_of w m b)) r (account_of w m' b')
-on_billing does w m m' b b' r e came = subst (λ (v : Opened). AccountCame (does (account_of v m b)) r (account_of v m' b')) (sym e) came
+pub on_billing : (does : Account → Outcome Account) (w : Option Sort) (m m' : MeterAccount) (b b' : BillAccount) (r : Result Said ProgramFault) → w ≡ Some Billing →
+    AccountCame (does (billed b)) r (billed b') → AccountCame (does (account_in w m b)) r (account_in w m' b')
+on_billing does w m m' b b' r e came = subst (λ (v : Option Sort). AccountCame (does (account_in v m b)) r (account_in v m' b')) (sym e) came
 
 -- a refused opening, where no account is open
-pub on_neither : (does : Account → Outcome Account) (w : Opened) (m m' : MeterAccount) (b b' : BillAccount) (r : Result Said ProgramFault) → w ≡ Neither →
-    AccountCame (does none) r none → AccountCame (does (account_of w m b)) r (account_of w m' b')
-on_neither does w m m' b b' r e came = subst (λ (v : Opened). AccountCame (does (account_of v m b)) r (account_of v m' b')) (sym e) came
+pub on_none : (does : Account → Outcome Account) (w : Option Sort) (m m' : MeterAccount) (b b' : BillAccount) (r : Result Said ProgramFault) → w ≡ None →
+    AccountCame (does none) r none → AccountCame (does (account_in w m b)) r (account_in w m' b')
+on_none does w m m' b b' r e came = subst (λ (v : Option Sort). AccountCame (does (account_in v m b)) r (account_in v m' b')) (sym e) came
 
 -- a call on the stores leaves as many slots
 pub same_fewest : (accepted : Bool) (s s' : Zones EnergyStore) → EachAccounted accepted s s' → fewest s' ≡ fewest s
@@ -92,10 +94,17 @@ first_lines n new old lines en e = ap (take n) e ∙ ap (λ k. take k (written n
 pub other_lines : (n : ℕ) (new old lines : List Line) → n ≡ length new → lines ≡ written new old → drop n lines ≡ drop n old
 other_lines n new old lines en e = ap (drop n) e ∙ (ap (λ k. drop k (written new old)) en ∙ drop-append_seam new (drop (length new) old)) ∙ ap (λ k. drop k old) (sym en)
 
--- an enter that is refused hands the sums back
-pub back_some : (sums : MonthSums) (o : Option AccountFault) (back : Returned) → Err back ≡ hands_back sums o → o ≡ Some back.fault
-back_some sums None back e = let z : ◌≡◌ {A = ℕ} 0 1 = cc in absurd (omega arith)
-back_some sums (Some f) back e = let q : back ≡ record { fault = f; sums = sums } = cc in ap (λ (b : Returned). Some b.fault) (sym q)
+-- an enter that was accepted, or that handed the sums back with a refusal
+pub entered_came : {X : Type 0} (of : X → Account) (sums : MonthSums) (o : Option AccountFault) (old new x : X) (back : Result (Unit {0}) Returned) (r : Result (Unit {0}) ProgramFault) (Gives : Returned → ProgramFault → Type 0) →
+    ((b : Returned) (f : ProgramFault) → Gives b f → f ≡ InAccount b.fault) → back ≡ hands_back sums o → MatchResult back (λ v. r ≡ Ok v) (λ b. IsErrAnd r (Gives b)) → x ≡ becomes o new old →
+    AccountCame (by_account o (of old) nothing (of new)) (nothing_said r) (of x)
+entered_came of sums None old new x (Ok tt) r Gives gives e cases s = (sym (ap nothing_said cases), sym (ap of s))
+entered_came of sums None old new x (Err b) r Gives gives e cases s = let z : ◌≡◌ {A = ℕ} 0 1 = cc in absurd (omega arith)
+entered_came of sums (Some f) old new x (Ok tt) r Gives gives e cases s = let z : ◌≡◌ {A = ℕ} 0 1 = cc in absurd (omega arith)
+entered_came of sums (Some f) old new x (Err b) r Gives gives e cases s =
+    let p = err_from_is_err_and r cases in
+    let q : b ≡ record { fault = f; sums = sums } = cc in
+    (sym (ap nothing_said p.1 ∙ ap Err (gives b _ p.2 ∙ ap (λ (b : Returned). InAccount b.fault) q)), sym (ap of s))
 
 -- the same lines with the same answer
 pub same_settled : (lines lines' : List Line) (answer answer' : Settlement) → lines ≡ lines' → answer ≡ answer' → ◌≡◌ {A = Result Said ProgramFault} (Ok (settled lines answer)) (Ok (settled lines' answer'))

@@ -1,19 +1,17 @@
 -- From what a call came to, to what a step took.
-use Rattle.std.proofs.Common.{◌≡◌, List, Ok, Err, Option, Result, sym, ap, subst}
+use Rattle.std.proofs.Common.{◌≡◌, List, Ok, Err, Option, Result, sym, subst}
 use Rattle.faults.specs.declared.ProgramFault.{ProgramFault}
 use Rattle.settlement.specs.declared.answers.Line.{Line}
-use Rattle.settlement.specs.Metering.{MeterAccount}
-use Rattle.settlement.specs.Billing.{BillAccount}
 use Rattle.records.specs.Records.{Rec}
 use Rattle.answers.specs.Said.{Said}
 use Rattle.answers.specs.declared.kinds.Answer.{Answer}
 use Rattle.desk.specs.declared.book.OpenBook.{OpenBook}
 use Rattle.desk.specs.declared.steps.Desk.{Desk}
-use Rattle.desk.specs.declared.steps.StepFault.{StepFault}
+use Rattle.desk.specs.declared.step_fault.StepFault.{StepFault}
 use Rattle.desk.specs.State.{Account, State, Memory}
 use Rattle.desk.specs.Outcome.{Outcome}
 use Rattle.desk.specs.Steps.{taken, on_account}
-use Rattle.desk.specs.Means.{AccountCame, BookHolds, Came, Means, Took, account_of, answered_of, lines_written, nothing_said, said_with, told_of}
+use Rattle.desk.specs.Means.{AccountCame, BookHolds, Came, Means, Took, account_of, answered_of, nothing_said, said_with, told_of}
 
 module _ (memory : Memory) (s : State) (lines : List Line) (Stands : State → Type 0) where
   told : (said_by : Rec) (r : Result (Unit {0}) ProgramFault) → Came (taken memory s said_by) (nothing_said r) Stands → Took memory s said_by (told_of r) lines Stands
@@ -37,13 +35,8 @@ module _ (memory : Memory) (s : State) (lines : List Line) (Stands : State → T
       subst (λ (rec : Rec). Took memory s rec out lines Stands) (sym e) (subst (λ (o : Result Answer StepFault). Took memory s is o lines Stands) (sym eo) (answered is r came))
 
 -- a call on the account, from where the desk stood
-pub account_took : (does : Account → Outcome Account) (d d' : Desk) (m m' : MeterAccount) (b b' : BillAccount) (s : State) (r : Result Said ProgramFault) → Means d m b s → d'.book ≡ d.book →
-    AccountCame (does (account_of d.opened m b)) r (account_of d'.opened m' b') → Came (on_account s.book (does s.account)) r (Means d' m' b')
-account_took does d d' m m' b b' s r means e came =
-    let at = subst (λ (a : Account). AccountCame (does a) r (account_of d'.opened m' b')) means.account came in
+pub account_took : (does : Account → Outcome Account) (d d' : Desk) (s : State) (r : Result Said ProgramFault) → Means d s → d'.book ≡ d.book →
+    AccountCame (does (account_of d.accounts)) r (account_of d'.accounts) → Came (on_account s.book (does s.account)) r (Means d')
+account_took does d d' s r means e came =
+    let at = subst (λ (a : Account). AccountCame (does a) r (account_of d'.accounts)) means.account came in
     (at.0, record { account = sym at.1; book = subst (λ (o : Option OpenBook). BookHolds o s.book) (sym e) means.book })
-
--- what is only accepted or refused writes no line
-pub no_lines : (r : Result (Unit {0}) ProgramFault) (out : Result Answer StepFault) → out ≡ told_of r → lines_written out ≡ 0
-no_lines (Ok tt) out e = ap lines_written e
-no_lines (Err fault) out e = ap lines_written e

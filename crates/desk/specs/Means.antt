@@ -14,14 +14,15 @@ use Rattle.hours.specs.declared.prices.MonthPrice.{MonthPrice}
 use Rattle.records.specs.Records.{Rec}
 use Rattle.records.specs.Records.Rec.{opens_metering, opens_billing, opens_book, gives_month_price, gives_hour_prices, reading, finish, settle, turn}
 use Rattle.store.specs.Held.{room}
-use Rattle.accounts.specs.declared.metering.Metering.{Metering}
-use Rattle.accounts.specs.declared.billing.Billing.{Billing}
 use Rattle.accounts.specs.Means.{fewest}
+use Rattle.accounts.specs.Metered as metering
+use Rattle.accounts.specs.Billed as billing
 use Rattle.desk.specs.declared.steps.Desk.{Desk}
-use Rattle.desk.specs.declared.steps.StepFault.{StepFault}
-use Rattle.desk.specs.declared.steps.StepFault.TheVariants.{Refused, NoMemory}
-use Rattle.desk.specs.declared.account_calls.Opened.{Opened}
-use Rattle.desk.specs.declared.account_calls.Opened.TheVariants as opened
+use Rattle.desk.specs.declared.step_fault.StepFault.{StepFault}
+use Rattle.desk.specs.declared.step_fault.StepFault.TheVariants.{Refused, NoMemory}
+use Rattle.desk.specs.declared.account_calls.Accounts.{Accounts}
+use Rattle.desk.specs.declared.account_calls.Sort.{Sort}
+use Rattle.desk.specs.declared.account_calls.Sort.TheVariants as sort
 use Rattle.desk.specs.declared.book.OpenBook.{OpenBook}
 use Rattle.settlement.specs.declared.answers.Line.{Line}
 use Rattle.settlement.specs.Metering.{MeterAccount}
@@ -67,6 +68,10 @@ abbrev pub HoldsAfter : Option BookFault → BookState → BookState → Result 
 HoldsAfter refusal old new (Ok _) b = (refusal ≡ None) × Holds b new
 HoldsAfter refusal old new (Err fault) b = (refusal ≡ Some fault) × Holds b old
 
+-- what is done to an open book is refused by this, and otherwise it becomes that
+abbrev pub Changes : (OpenBook → Result (Unit {0}) BookFault → OpenBook → Type 0) → (BookState → Option BookFault) → (BookState → BookState) → Type 0
+Changes Does refusal becomes = (b b' : OpenBook) (r : Result (Unit {0}) BookFault) (s : BookState) → Does b r b' → Holds b s → HoldsAfter (refusal s) s (becomes s) r b'
+
 -- a book that is not finished is as it was
 abbrev pub Kept : BookState → BookFault → OpenBook → Type 0
 Kept s fault b = (finish_refusal s ≡ Some fault) × Holds b s
@@ -87,22 +92,24 @@ nothing_said (Err fault) = Err fault
 abbrev pub BookCame : Outcome (Option BookState) → Result Said ProgramFault → Option OpenBook → Type 0
 BookCame o r b = (o.answer ≡ r) × BookHolds b o.after
 
--- the open account, from what the code's two accounts mean
-abbrev pub account_of : Opened → MeterAccount → BillAccount → Account
-account_of opened.Neither m b = none
-account_of opened.Metering m b = metered m
-account_of opened.Billing m b = billed b
+-- the account that is open, from which it is and what the two mean
+abbrev pub account_in : Option Sort → MeterAccount → BillAccount → Account
+account_in None m b = none
+account_in (Some sort.Metering) m b = metered m
+account_in (Some sort.Billing) m b = billed b
+
+-- the open account that the code's two accounts mean
+abbrev pub account_of : Accounts → Account
+account_of a = account_in a.opened (metering.metered a.metering) (billing.billed a.billing)
+
+-- the slots of each store of a metering account, and those of a billing account
+abbrev pub slots_of : Accounts → ℕ × ℕ
+slots_of a = (fewest a.metering.meters.stores, room a.billing.store)
 
 -- what needs an open account is out of place where there is none
 abbrev pub in_place : {X : Type 0} → Option X → Result X ProgramFault
 in_place None = Err OutOfPlace
 in_place (Some x) = Ok x
-
--- a record that needs an open account is out of place where there is none
-abbrev pub has_account : Opened → Result (Unit {0}) ProgramFault
-has_account opened.Neither = Err OutOfPlace
-has_account opened.Metering = Ok tt
-has_account opened.Billing = Ok tt
 
 -- a call on the account came out so
 abbrev pub AccountCame : Outcome Account → Result Said ProgramFault → Account → Type 0
@@ -125,13 +132,13 @@ abbrev pub lines_written : {E : Type 0} → Result Answer E → ℕ
 lines_written (Ok answer) = lines_of answer
 lines_written (Err fault) = 0
 
--- the memory that a step works in
-abbrev pub memory_of : Metering → Billing → ℕ → Memory
-memory_of m b lines = record { meter_slots = fewest m.stores; bill_slots = room b.store; lines = lines }
+-- the memory that a step works in, with room for so many lines
+abbrev pub memory_of : Desk → ℕ → Memory
+memory_of d lines = record { meter_slots = fewest d.accounts.metering.meters.stores; bill_slots = room d.accounts.billing.store; lines = lines }
 
--- the code's desk, with what the two accounts mean, stands at s
-pub record Means (d : Desk) (m : MeterAccount) (b : BillAccount) (s : State) : Type 0 where
-  pub account : account_of d.opened m b ≡ s.account
+-- the code's desk stands at s
+pub record Means (d : Desk) (s : State) : Type 0 where
+  pub account : account_of d.accounts ≡ s.account
   pub book : BookHolds d.book s.book
 
 -- a record came out so: its answer is the one defined, and the desk stands where it is defined to

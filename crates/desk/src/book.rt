@@ -6,7 +6,7 @@ ghost use Rattle.desk.specs.Books.{each_in_range, begun, finish_refusal, hour_re
 ghost use Rattle.desk.specs.Means.{Holds, HoldsAfter, Kept};
 
 use faults::BookFault;
-use hours::{Book, HourPrices, MonthPrice, MonthSums, StandIn, Unfinished};
+use hours::{Book, HourPrices, MonthPrice, MonthSums, Reading, StandIn, Tariff, Unfinished};
 
 // An open book: its month, its readings, and its hour prices over its month price.
 #[derive(Drop)]
@@ -25,14 +25,10 @@ pub(crate) struct Incomplete {
 
 impl OpenBook {
     // Opens a book for a month, with no prices yet.
-    pub(crate) fn open(
-        month: u16,
-        marks: [[u8; 24]; 2],
-        sale: [u32; 3],
-    ) -> Result<OpenBook, BookFault>
-        ensures { elim result [ Ok b ↦ (book_open_refusal month marks sale ≡ None) × Holds b (begun month marks sale) | Err f ↦ book_open_refusal month marks sale ≡ Some f ] }
+    pub(crate) fn open(month: u16, tariff: Tariff) -> Result<OpenBook, BookFault>
+        ensures { elim result [ Ok b ↦ (book_open_refusal month tariff.marks tariff.sale ≡ None) × Holds b (begun month tariff.marks tariff.sale) | Err f ↦ book_open_refusal month tariff.marks tariff.sale ≡ Some f ] }
     {
-        let book = Book::open(month, marks, sale)?;
+        let book = Book::open(month, tariff)?;
         let prices = StandIn {
             upper: None,
             lower: None,
@@ -63,10 +59,10 @@ impl OpenBook {
     }
 
     // Reads the next hour.
-    pub(crate) fn read(&mut self, import: u32, export: u32) -> Result<(), BookFault>
-        ensures { (s : BookState) → Holds self.old s → HoldsAfter (hour_refusal import export s) s (with_next_hour import export s) result self.new }
+    pub(crate) fn read(&mut self, reading: Reading) -> Result<(), BookFault>
+        ensures { (s : BookState) → Holds self.old s → HoldsAfter (hour_refusal reading.import reading.export s) s (with_next_hour reading.import reading.export s) result self.new }
     {
-        self.book.read(import, export, &mut self.prices)
+        self.book.read(reading, &mut self.prices)
     }
 
     // The sums of a complete book; one with hours missing is handed back.
@@ -78,17 +74,14 @@ impl OpenBook {
             book,
             prices,
         } = self;
-        match book.finish() {
-            Ok(sums) => Ok(sums),
-            Err(unfinished) => {
-                let Unfinished { fault, book } = unfinished;
-                let open = OpenBook {
-                    month,
-                    book,
-                    prices,
-                };
-                Err(Incomplete { fault, open })
-            }
-        }
+        book.finish().map_err(|unfinished| {
+            let Unfinished { fault, book } = unfinished;
+            let open = OpenBook {
+                month,
+                book,
+                prices,
+            };
+            Incomplete { fault, open }
+        })
     }
 }

@@ -3,9 +3,10 @@
 
 mod account_calls;
 mod book;
-mod books;
+mod step_fault;
 mod steps;
 
-pub use account_calls::Opened;
+pub use account_calls::{Accounts, Sort};
 pub use book::OpenBook;
-pub use steps::{Desk, StepFault};
+pub use step_fault::StepFault;
+pub use steps::Desk;

@@ -2,7 +2,7 @@
 use crate::show;
 use anyhow::anyhow;
 use calendar::Month;
-use hours::{MonthPrice, Reading, Totals, sum_month};
+use hours::{MonthPrice, Reading, Tariff, Totals, sum_month};
 use std::alloc::{AllocError, Global};
 
 // The totals of a month, zone by zone, and its value and charge.
@@ -30,13 +30,11 @@ fn february(heap: Global, first: &[Reading], price: i32) -> anyhow::Result<Total
     let Ok(mut source) = MonthPrice::new(97, price) else {
         return Err(anyhow!("the price is refused"));
     };
-    match sum_month(
-        97,
-        [[1; 24], [3; 24]],
-        [600_000, 0, 500_000],
-        &readings,
-        &mut source,
-    ) {
+    let tariff = Tariff {
+        marks: [[1; 24], [3; 24]],
+        sale: [600_000, 0, 500_000],
+    };
+    match sum_month(97, tariff, &readings, &mut source) {
         Ok(sums) => {
             let totals = sums.totals();
             let _ = sums.strike();

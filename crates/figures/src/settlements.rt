@@ -3,7 +3,7 @@ use crate::draws::UNUSED;
 use crate::show;
 use accounts::{Billing, Metering};
 use anyhow::anyhow;
-use hours::{MonthPrice, MonthSums, Reading, sum_month};
+use hours::{MonthPrice, MonthSums, Reading, Tariff, sum_month};
 use portions::Kind;
 use portions::oldest_first::OldestFirst;
 use settlement::{Line, Returned};
@@ -60,7 +60,11 @@ fn sums_of(heap: Global, working: Days, weekend: Days) -> anyhow::Result<MonthSu
     let Ok(mut source) = MonthPrice::new(97, 300_000) else {
         return Err(anyhow!("the price is refused"));
     };
-    match sum_month(97, [[1; 24], [2; 24]], [600_000; 3], &readings, &mut source) {
+    let tariff = Tariff {
+        marks: [[1; 24], [2; 24]],
+        sale: [600_000; 3],
+    };
+    match sum_month(97, tariff, &readings, &mut source) {
         Ok(sums) => Ok(sums),
         Err(_) => Err(anyhow!("the month is refused")),
     }

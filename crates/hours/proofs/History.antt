@@ -1,11 +1,11 @@
 -- What a book has read, hour after hour.
-use Rattle.std.proofs.Common.{◌≡◌, ℕ, zero, suc, ◌+◌, ◌-◌, ◌<◌, ◌≤◌, Bool, true, false, cond, eqb, ◌≢◌, List, [], ◌∷◌, ◌++◌, length, get_or, ℤ, Some, None, Option, sym, refl, ap, ◌∙◌, subst, inl, inr, add-zero, add_assoc, add-suc, suc-add, zero-add, arith, length-append, get_or-set_other, get_or-set_same}
-use Rattle.std.proofs.lemmas.Bool.Decides.{nat_tests, eqb_tells}
+use Rattle.std.proofs.Common.{◌≡◌, ℕ, zero, suc, ◌+◌, ◌-◌, ◌<◌, ◌≤◌, cond, eqb, ◌≢◌, List, [], ◌∷◌, ◌++◌, length, get_or, ℤ, Some, None, Option, sym, refl, ap, ◌∙◌, subst, inl, inr, add-zero, add_assoc, add-suc, suc-add, zero-add, arith, lit≤, length-append, get_or-set_other, get_or-set_same}
+use Rattle.std.proofs.lemmas.Bool.Decides.{eqb_tells}
 use Rattle.faults.specs.declared.BookFault.{BookFault}
-use Rattle.calendar.specs.Hour.{hour_of_place}
-use Rattle.calendar.proofs.Hours.{clock_within}
-use Rattle.hours.specs.Marks.{Zone, mark_in_row}
-use Rattle.hours.specs.Bounds.{Zoned, Bounded}
+use Rattle.hours.specs.Zones.{zone_number}
+use Rattle.hours.specs.declared.zones.Zone.{Zone}
+use Rattle.hours.specs.declared.zones.Zone.TheVariants.{First, Second, Third}
+use Rattle.hours.specs.Bounds.{Bounded}
 use Rattle.hours.specs.Reading.{hours_of, zone_at, more, joined, read_refusal, unless, reading, answer, after, nothing}
 use Rattle.hours.specs.Month.{HourRead, sum_over, taken_in, given_in, costs, earns, HasRead, ReadsOn}
 use Rattle.hours.specs.declared.book.Terms.{Terms}
@@ -20,8 +20,14 @@ sum_push f k (y ∷ ys) x =
     ∙ sym (add_assoc (f k y) (sum_over f (suc k) ys) (f (suc k + length ys) x))
     ∙ ap (λ n. f k y + sum_over f (suc k) ys + f n x) (suc-add k (length ys) ∙ sym (add-suc k (length ys)))
 
+-- zones have the numbers 1 to 3
+pub numbered : (z : Zone) → (1 ≤ zone_number z) × (zone_number z ≤ 3)
+numbered First = (lit≤ tt, lit≤ tt)
+numbered Second = (lit≤ tt, lit≤ tt)
+numbered Third = (lit≤ tt, lit≤ tt)
+
 -- x more in zone w, seen from zone z
-in_zone : (w z x : ℕ) (xs : List ℕ) → Zone w → length xs ≡ 3 → 1 ≤ z → z ≤ 3
+in_zone : (w z x : ℕ) (xs : List ℕ) → (1 ≤ w) × (w ≤ 3) → length xs ≡ 3 → 1 ≤ z → z ≤ 3
     → get_or (more xs w x) (z - 1) 0 ≡ get_or xs (z - 1) 0 + cond (eqb w z) x 0
 in_zone w z x xs o l a b =
     elim (eqb_tells w z) [
@@ -41,10 +47,11 @@ next f hs h new old a b =
     a ∙ ap (λ n. n + f (length hs) h) b ∙ sym (sum_push f 0 hs h ∙ ap (λ n. sum_over f 0 hs + f n h) (zero-add (length hs)))
 
 -- the sums with one hour more
-pub sums_more : (t : Terms) (y : Tally) (i e : ℕ) (g : Option ℤ) (hs : List HourRead) → Zone (zone_at t y.hours)
+pub sums_more : (t : Terms) (y : Tally) (i e : ℕ) (g : Option ℤ) (hs : List HourRead)
     → length y.totals.import ≡ 3 → length y.totals.export ≡ 3 → HasRead t hs y
     → HasRead t (hs ++ ((record { import = i; export = e; price = g }) ∷ [])) (joined t y i e g)
-sums_more t y i e g hs o li le r =
+sums_more t y i e g hs li le r =
+    let o = numbered _ in
     let h : HourRead = record { import = i; export = e; price = g } in
     let at = r.hours in
     let z = zone_at t in
@@ -62,32 +69,16 @@ sums_more t y i e g hs o li le r =
       };
     }
 
-by_bool : (b : Bool) (P : ℕ → Type 0) (x y : ℕ) → P x → P y → P (cond b x y)
-by_bool true P x y p q = p
-by_bool false P x y p q = q
-
--- every place of the month has a zone
-pub zone_within : (t : Terms) (p : ℕ) → Zoned t.working → Zoned t.weekend → p < hours_of t → Zone (zone_at t p)
-zone_within t p w f k =
-    let c = clock_within t.month.number p k in
-    by_bool (hour_of_place t.month.number p).weekend (λ r. Zone (mark_in_row r (hour_of_place t.month.number p).clock)) _ _ (f _ c) (w _ c)
-
--- an accepted reading lies in the month
-pub accepted_inside : (hours p i e : ℕ) (g : Option ℤ) → read_refusal hours p i e g ≡ None → p < hours
-accepted_inside hours p i e g h = grind (arith, nat_tests)
-
-by_refusal : (t : Terms) (y : Tally) (i e : ℕ) (g : Option ℤ) (f : Option BookFault) → (f ≡ None → Zone (zone_at t y.hours))
+by_refusal : (t : Terms) (y : Tally) (i e : ℕ) (g : Option ℤ) (f : Option BookFault)
     → length y.totals.import ≡ 3 → length y.totals.export ≡ 3
     → ReadsOn t y (record { import = i; export = e; price = g }) (answer (unless f (joined t y i e g))) (after y (unless f (joined t y i e g)))
-by_refusal t y i e g (Some f) o li le hs r = r
-by_refusal t y i e g None o li le hs r = sums_more t y i e g hs (o refl) li le r
+by_refusal t y i e g (Some f) li le hs r = r
+by_refusal t y i e g None li le hs r = sums_more t y i e g hs li le r
 
 -- whatever was read before, after a reading that and the hour is read, or, where it is refused, that alone
-pub reads_on : (t : Terms) (y : Tally) (i e : ℕ) (g : Option ℤ) → Zoned t.working → Zoned t.weekend → Bounded y.hours y.totals
+pub reads_on : (t : Terms) (y : Tally) (i e : ℕ) (g : Option ℤ) → Bounded y.hours y.totals
     → ReadsOn t y (record { import = i; export = e; price = g }) (answer (reading t y i e g)) (after y (reading t y i e g))
-reads_on t y i e g w f b =
-    by_refusal t y i e g (read_refusal (hours_of t) y.hours i e g)
-    (λ n. zone_within t y.hours w f (accepted_inside (hours_of t) y.hours i e g n)) b.0 b.1
+reads_on t y i e g b = by_refusal t y i e g (read_refusal (hours_of t) y.hours i e g) b.0 b.1
 
 zero_at : (k : ℕ) → ◌≡◌ {A = ℕ} (get_or (0 ∷ 0 ∷ 0 ∷ []) k 0) 0
 zero_at zero = refl

@@ -1,6 +1,7 @@
 -- A list of readings, read one after the other.
-use Rattle.std.proofs.Common.{◌≡◌, ℕ, suc, ◌+◌, ◌<◌, ◌≤◌, Bool, true, false, cond, List, [], ◌∷◌, ◌++◌, length, get_or, take, drop, ℤ, Some, None, Ok, Err, Option, Result, sym, refl, ap, ◌∙◌, subst, add-zero, le_of_lt, add-suc, suc-add, zero-add, add-one, arith, length-take, take_all, drop-cons, take-suc}
-use Rattle.std.proofs.lemmas.List.{drop_all}
+use Rattle.std.proofs.Common.{◌≡◌, ℕ, suc, ◌+◌, ◌<◌, ◌≤◌, Bool, true, false, cond, List, [], ◌∷◌, ◌++◌, length, get_or, take, drop, ℤ, Some, None, Ok, Err, Option, Result, sym, refl, ap, ◌∙◌, subst, add-zero, le_of_lt, add-suc, suc-add, zero-add, add-one, arith, length-take, drop-cons, take-suc}
+use Rattle.std.specs.Result.{is_ok}
+use Rattle.std.proofs.lemmas.Bool.{false≢true}
 use Rattle.faults.specs.declared.BookFault.{BookFault}
 use Rattle.hours.specs.Reading.{hours_of, joined, read_refusal, needs_price, unless, answer}
 use Rattle.hours.specs.Month.{HourRead, HasRead, ReadsOn}
@@ -28,6 +29,16 @@ was_refused None k e = cc
 pub was_accepted : (f : Option BookFault) → Ok tt ≡ answer (unless f (tt {0})) → f ≡ None
 was_accepted (Some f) e = cc
 was_accepted None e = refl
+
+-- an answer whose refusal is told otherwise: an accepted reading is accepted still
+pub still_ok : {E F : Type 0} (r : Result (Unit {0}) E) (m : Result (Unit {0}) F) (u : Unit {0}) → is_ok m ≡ is_ok r → m ≡ Ok u → r ≡ Ok tt
+still_ok (Ok v) m u k e = refl
+still_ok (Err f) m u k e = absurd (false≢true (sym k ∙ ap is_ok e))
+
+-- a result is a value or an error
+pub by_result : {X E A : Type 0} (r : Result X E) → ((x : X) → r ≡ Ok x → A) → ((e : E) → r ≡ Err e → A) → A
+by_result (Ok x) a b = a x refl
+by_result (Err e) a b = b e refl
 
 -- the list from place i on begins with the reading there
 pub reading_then : (rs : List Reading) (i : ℕ) → i < length rs → drop i rs ≡ reading_at rs i ∷ drop (i + 1) rs
@@ -86,9 +97,6 @@ pub record ReadTo {S : Type 0} (G : Ghosts S) (t : Terms) (s₀ : S) (rs : List 
   pub refusal : refused_from (hours_of t) (prices_of G s₀ t.month.number) 0 rs ≡ refused_from (hours_of t) (prices_of G s₀ t.month.number) i (drop i rs)
   pub asked : asked_for G t.month.number (questions_from (hours_of t) (prices_of G s₀ t.month.number) 0 rs) (G.state s₀)
       ≡ asked_for G t.month.number (questions_from (hours_of t) (prices_of G s₀ t.month.number) i (drop i rs)) (G.state s)
-
-pub read_to_none : {S : Type 0} (G : Ghosts S) (t : Terms) (s : S) (rs : List Reading) (y : Tally) → HasRead t [] y → ReadTo G t s rs 0 t y s
-read_to_none G t s rs y h = record { terms = refl; prices = λ m p. refl; history = h; refusal = refl; asked = refl }
 
 -- the place of the next reading is the number of those read
 place : {S : Type 0} (G : Ghosts S) (t : Terms) (s₀ : S) (rs : List Reading) (i : ℕ) (t₁ : Terms) (y : Tally) (s : S) → ReadTo G t s₀ rs i t₁ y s → i < length rs → y.hours ≡ i
@@ -191,17 +199,3 @@ read_to_refused {S} G t s₀ rs i f t₁ t' y y' s s' w h c₁ =
       terms = c.terms;
       asked = sym (asked_on G t s₀ rs i t₁ y s s' (Some f) w h n c.asked);
     }
-
--- all readings are read
-pub read_to_all : {S : Type 0} (G : Ghosts S) (t : Terms) (s₀ : S) (rs : List Reading) (i : ℕ) (t₁ : Terms) (y : Tally) (s : S)
-    → ReadTo G t s₀ rs i t₁ y s → length rs ≤ i
-    → ReadOver G t s₀ rs None t₁ s × HasRead t (hours_from (prices_of G s₀ t.month.number) 0 rs) y
-read_to_all G t s₀ rs i t₁ y s w h =
-    let P = prices_of G s₀ t.month.number in (
-      record {
-        refusal = sym (w.refusal ∙ ap (refused_from (hours_of t) P i) (drop_all i rs h));
-        terms = w.terms;
-        asked = sym (w.asked ∙ ap (λ xs. asked_for G t.month.number (questions_from (hours_of t) P i xs) (G.state s)) (drop_all i rs h));
-      },
-      subst (λ (xs : List Reading). HasRead t (hours_from P 0 xs) y) (take_all i rs h) w.history,
-    )

@@ -1,15 +1,15 @@
 -- The bounds that the terms, the totals and the sums of a book keep, so that nothing in them can overflow.
 use Rattle.std.specs.Prelude.{◌≡◌, ℕ, ◌+◌, ◌*◌, ◌<◌, ◌≤◌, List, length, sum, slice_index}
-use Rattle.hours.specs.Marks.{Zone, mark_in_row}
 use Rattle.hours.specs.declared.sums.Totals.{Totals}
-
--- a packed row has a zone for each clock hour
-abbrev pub Zoned : ℕ → Type 0
-Zoned w = (c : ℕ) → c < 24 → Zone (mark_in_row w c)
 
 -- three sale prices, each at most 1,000,000 gr per MWh
 abbrev pub Cheap : List ℕ → Type 0
 Cheap sale = (length sale ≡ 3) × ((z : ℕ) → z < 3 → slice_index sale z ≤ 1000000)
+
+-- how far a book has read: the hours, and their totals
+pub record Progress : Type 0 where
+  pub hours : ℕ
+  pub totals : Totals
 
 -- an hour brings at most 100,000 Wh, of import or of export, in one of three zones, at a price of at most 1,000,000 gr per MWh
 abbrev pub Bounded : ℕ → Totals → Type 0

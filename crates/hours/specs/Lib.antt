@@ -1,4 +1,3 @@
-pub mod Every
 pub mod Price
 pub mod Zones
 pub mod Marks

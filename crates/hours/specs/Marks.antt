@@ -1,26 +1,24 @@
 -- Zone marks: the zone of each clock hour, 24 of a working day and 24 of a Saturday or Sunday.
-use Rattle.std.specs.Prelude.{ℕ, ◌+◌, ◌*◌, ◌/◌, ◌%◌, ◌^◌, ◌≤◌, Bool, cond, List, [], ◌∷◌, slice_index, slice_index_or}
+use Rattle.std.specs.Prelude.{◌≡◌, ℕ, Bool, false, cond, List, [], Result, MatchResult, map, slice_index, slice_index_or}
+use Rattle.std.specs.List.{list_all}
 use Rattle.calendar.specs.Hour.{hour_of_place}
-use Rattle.hours.specs.Every.{every}
-use Rattle.hours.specs.Zones.{names_zone}
+use Rattle.faults.specs.declared.BookFault.{BookFault}
+use Rattle.faults.specs.declared.BookFault.TheVariants.{MarkOutOfRange}
+use Rattle.hours.specs.Zones.{names_zone, zone_number}
+use Rattle.hours.specs.declared.zones.Zone.{Zone}
 
--- every mark of a row does
+-- every mark of a row names a zone
 abbrev pub each_zone : List ℕ → Bool
-each_zone row = every names_zone row
+each_zone row = list_all names_zone row
 
 -- the zone at place p of month m, by the two rows of marks
 abbrev pub zone_by_marks : List (List ℕ) → ℕ → ℕ → ℕ
 zone_by_marks marks m p = slice_index (slice_index_or marks (cond (hour_of_place m p).weekend 1 0) []) (hour_of_place m p).clock
 
--- a row packed into one number, two bits a mark, the first mark lowest
-unfoldable pub packed : List ℕ → ℕ
-packed [] = 0
-packed (n ∷ ns) = packed ns * 4 + n
+-- the marks that name a row of zones
+abbrev pub marks_of : List Zone → List ℕ
+marks_of zones = map zone_number zones
 
--- the mark of clock hour c in a packed row
-abbrev pub mark_in_row : ℕ → ℕ → ℕ
-mark_in_row w c = w / 2 ^ (2 * c) % 4
-
--- n is the number of a zone
-abbrev pub Zone : ℕ → Type 0
-Zone n = (1 ≤ n) × (n ≤ 3)
+-- the result is the zones that a row of marks names, or refusal 11 of a row with a mark that names none
+abbrev pub RowNamed : List ℕ → Result (List Zone) BookFault → Type 0
+RowNamed row r = MatchResult r (λ zones. marks_of zones ≡ row) (λ fault. (fault ≡ MarkOutOfRange) × (each_zone row ≡ false))

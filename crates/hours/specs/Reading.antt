@@ -1,10 +1,11 @@
 -- What reading an hour makes of a book.
-use Rattle.std.specs.Prelude.{ℕ, ◌+◌, ◌-◌, ◌*◌, Bool, false, cond, ◌||◌, List, [], ◌∷◌, ℤ, Some, None, Ok, Err, Option, Result, nat_le, nat_lt, slice_index, slice_set}
+use Rattle.std.specs.Prelude.{ℕ, ◌+◌, ◌-◌, ◌*◌, Bool, false, cond, ◌||◌, List, [], ◌∷◌, ℤ, Some, None, Ok, Err, Option, Result, nat_le, nat_lt, slice_index, slice_index_or, slice_set}
 use Rattle.calendar.specs.Hour.{hour_of_place, month_hours}
 use Rattle.faults.specs.declared.BookFault.{BookFault}
 use Rattle.faults.specs.declared.BookFault.TheVariants.{ReadingTooLarge, BookComplete, NoPrice}
 use Rattle.hours.specs.Price.{worth}
-use Rattle.hours.specs.Marks.{mark_in_row}
+use Rattle.hours.specs.Zones.{zone_number}
+use Rattle.hours.specs.declared.zones.Zone.TheVariants.{First}
 use Rattle.hours.specs.declared.book.Terms.{Terms}
 use Rattle.hours.specs.declared.book.Tally.{Tally}
 
@@ -15,7 +16,7 @@ hours_of t = month_hours t.month.number
 -- the zone of the hour at place p
 abbrev pub zone_at : Terms → ℕ → ℕ
 zone_at t p =
-    mark_in_row (cond (hour_of_place t.month.number p).weekend t.weekend t.working) (hour_of_place t.month.number p).clock
+    zone_number (slice_index_or (cond (hour_of_place t.month.number p).weekend t.weekend t.working) (hour_of_place t.month.number p).clock First)
 
 -- the sale price of zone z, 1 to 3
 abbrev pub sale_price : List ℕ → ℕ → ℕ

@@ -1,11 +1,13 @@
 // The book of a month: the energy taken and given in each zone, hour by hour.
-ghost use Rattle.std.specs.Prelude.{◌≡◌, ◌<◌, ◌≤◌};
+ghost use Rattle.std.specs.Prelude.{◌≤◌};
 ghost use Rattle.calendar.specs.Hour.{month_hours};
-ghost use Rattle.hours.specs.Bounds.{Bounded, Cheap, Zoned};
+ghost use Rattle.hours.specs.Bounds.{Cheap};
 
 use crate::sums::Totals;
+use crate::zones::Zone;
 use calendar::Month;
 use faults::BookFault;
+use std::marker::Model;
 
 mod calls;
 
@@ -16,13 +18,22 @@ pub struct Reading {
     pub export: u32,
 }
 
-// What a book is opened with. The marks of a working day and of a Saturday or Sunday are packed, two bits each.
+// What energy is sold by: the zone marks of a working day and of a Saturday or Sunday, and the sale price of each zone.
+#[derive(Clone, Copy)]
+pub struct Tariff {
+    pub marks: [[u8; 24]; 2],
+    pub sale: [u32; 3],
+}
+
+// What a book is opened with: the zone of each clock hour of a working day and of a Saturday or Sunday, and the sale prices.
 #[derive(Clone, Copy)]
 pub struct Terms {
     pub(crate) month: Month,
-    pub(crate) working: u64,
-    pub(crate) weekend: u64,
+    pub(crate) working: [Zone; 24],
+    pub(crate) weekend: [Zone; 24],
     pub(crate) sale: [u32; 3],
+    ghost dated: { 47 ≤ month.number },
+    ghost cheap: { Cheap sale },
 }
 
 // What was read so far: the hours, and their totals.
@@ -32,16 +43,23 @@ pub struct Tally {
     pub(crate) totals: Totals,
 }
 
+impl Model for Tally {
+    ghost use Rattle.hours.specs.Bounds.{Bounded, Progress};
+
+    ghost Value = { Progress };
+
+    ghost view = { λ y. record { hours = y.hours; totals = y.totals } };
+
+    ghost inverse = { λ p. record { hours = p.hours; totals = p.totals } };
+
+    ghost invariant = { λ y. Bounded y.hours y.totals };
+}
+
 #[derive(Drop)]
 pub struct Book {
     terms: Terms,
     tally: Tally,
-    ghost dated: { 47 ≤ terms.month.number },
-    ghost working: { Zoned terms.working },
-    ghost weekend: { Zoned terms.weekend },
-    ghost cheap: { Cheap terms.sale },
     ghost begun: { tally.hours ≤ month_hours terms.month.number },
-    ghost bounded: { Bounded tally.hours tally.totals },
 }
 
 // Why a book is not finished, and the book as it was.

@@ -8,7 +8,7 @@ mod sums;
 mod whole;
 mod zones;
 
-pub use book::{Book, Reading, Tally, Terms, Unfinished};
+pub use book::{Book, Reading, Tally, Tariff, Terms, Unfinished};
 pub use marks::all_zones;
 pub use prices::{HourPrices, MonthPrice, PriceSource, StandIn};
 pub use sums::{Energies, MonthSums, Totals};

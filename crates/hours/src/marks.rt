@@ -1,44 +1,26 @@
-// Zone marks, kept packed: two bits for each clock hour.
-ghost use Rattle.std.specs.Prelude.{◌≡◌, ℕ, ◌<◌, true, slice_index};
-ghost use Rattle.hours.specs.Marks.{Zone, each_zone, mark_in_row, packed};
-ghost use Rattle.hours.specs.Zones.{names_zone};
+// Rows of zone marks, one for each clock hour.
+ghost use Rattle.std.specs.Prelude.{◌≡◌, IfOk, length};
+ghost use Rattle.hours.specs.Marks.{RowNamed, each_zone};
 
-fn is_zone(mark: u8) -> bool
-    ensures { result ≡ names_zone mark }
-{
-    mark >= 1 && mark <= 3
-}
+use crate::zones::Zone;
+use faults::BookFault;
 
 // Every mark of the row names a zone.
 pub fn all_zones(row: &[u8; 24]) -> bool
     ensures { result ≡ each_zone row.now }
 {
-    for mark in row {
-        if !is_zone(*mark) {
-            return false;
-        }
-    }
-    true
+    row.iter().all(|mark| (1..=3).contains(mark))
 }
 
-// The row in one number.
-pub(crate) fn pack(row: &[u8; 24]) -> u64
-    requires { each_zone row.now ≡ true }
-    ensures value { result ≡ packed row.now }
-    ensures marks { (c : ℕ) → c < 24 → mark_in_row result c ≡ slice_index row.now c }
-    ensures zones { (c : ℕ) → c < 24 → Zone (mark_in_row result c) }
+// The zones that a row of marks names; 11 where a mark names none.
+pub(crate) fn zones_of(row: &[u8; 24]) -> Result<[Zone; 24], BookFault>
+    ensures named { RowNamed row.now result }
+    ensures sized { IfOk result (λ zones. length zones ≡ 24) }
 {
-    let mut row_packed: u64 = 0;
-    for c in (0..24usize).rev() {
-        row_packed = row_packed * 4 + u64::from(row[c]);
+    let mut zones = [Zone::First; 24];
+    // By place: after an adapter of `iter_mut`, as `zip`, a proof knows nothing of what was written.
+    for (clock, mark) in row.iter().enumerate() {
+        zones[clock] = Zone::try_from(*mark)?;
     }
-    row_packed
-}
-
-// The mark of a clock hour in a packed row.
-pub(crate) fn mark_at(row: u64, clock: u8) -> u8
-    requires { clock < 24 }
-    ensures { result ≡ mark_in_row row clock }
-{
-    ((row >> (2 * clock)) % 4) as u8
+    Ok(zones)
 }

@@ -2,7 +2,7 @@
 ghost use Rattle.std.specs.Prelude.{◌≡◌, ℕ, List, ℤ, Ok, Err, Decides, Option};
 ghost use Rattle.std.specs.Option.{option_map};
 ghost use Rattle.hours.specs.Price.{AllPriced, Priced, Ranged, from_some, hour_gives, month_gives, or_else, unless_some};
-ghost use Rattle.std.proofs.Common.{rules, arith};
+ghost use Rattle.std.proofs.Common.{rules};
 
 use faults::BookFault;
 
@@ -29,7 +29,7 @@ pub trait PriceSource {
 fn in_range(price: i32) -> bool
     ensures { Decides result (Priced price) }
 {
-    price >= -1_000_000 && price <= 1_000_000
+    (-1_000_000..=1_000_000).contains(&price)
 }
 
 // A single price for one month.
@@ -61,16 +61,12 @@ impl PriceSource for MonthPrice {
 
     ghost asked = { λ s m p. s };
 
-    ghost ranged = { first_of (Prim.search rules, Prim.grind (arith, Self.row.coded.inj)) };
+    ghost ranged = { Prim.search rules };
 
-    ghost steady = { first_of (Prim.search rules, Prim.grind (arith, Self.row.coded.inj)) };
+    ghost steady = { Prim.search rules };
 
     fn ask(&mut self, month: u16, _place: u16) -> Option<i32> {
-        if month == self.month {
-            Some(self.price)
-        } else {
-            None
-        }
+        (month == self.month).then_some(self.price)
     }
 }
 
@@ -85,12 +81,7 @@ pub struct HourPrices {
 fn all_in_range(prices: &[i32]) -> bool
     ensures { Decides result (AllPriced prices.now) }
 {
-    for price in prices {
-        if !in_range(*price) {
-            return false;
-        }
-    }
-    true
+    prices.iter().all(|price| in_range(*price))
 }
 
 impl HourPrices {
@@ -114,17 +105,15 @@ impl PriceSource for HourPrices {
 
     ghost asked = { λ s m p. s };
 
-    ghost ranged = { first_of (Prim.search rules, Prim.grind (arith, Self.row.coded.inj)) };
+    ghost ranged = { Prim.search rules };
 
-    ghost steady = { first_of (Prim.search rules, Prim.grind (arith, Self.row.coded.inj)) };
+    ghost steady = { Prim.search rules };
 
     fn ask(&mut self, month: u16, place: u16) -> Option<i32> {
-        let at = place as usize;
-        if month == self.month && at < self.prices.len() {
-            Some(self.prices[at])
-        } else {
-            None
+        if month != self.month {
+            return None;
         }
+        self.prices.get(usize::from(place)).copied()
     }
 }
 
@@ -149,6 +138,7 @@ impl<U: PriceSource, L: PriceSource> PriceSource for StandIn<U, L> {
     ghost steady = { Prim.search rules };
 
     fn ask(&mut self, month: u16, place: u16) -> Option<i32> {
+        // A match: of what `or_else` lends to a closure that it does not call, a proof knows nothing afterwards.
         match self.upper.ask(month, place) {
             Some(price) => Some(price),
             None => self.lower.ask(month, place),
@@ -171,9 +161,6 @@ impl<S: PriceSource> PriceSource for Option<S> {
     ghost steady = { Prim.search rules };
 
     fn ask(&mut self, month: u16, place: u16) -> Option<i32> {
-        match self {
-            Some(source) => source.ask(month, place),
-            None => None,
-        }
+        self.as_mut()?.ask(month, place)
     }
 }

@@ -6,7 +6,7 @@ ghost use Rattle.month_sums.specs.Told.{PriceTold, SumsOf, Told};
 use crate::complaint::{Complaint, Reason};
 use crate::input::Input;
 use crate::refusal::{complaint_of, hour_line};
-use hours::{HourPrices, MonthPrice, MonthSums, StandIn, sum_month};
+use hours::{HourPrices, MonthPrice, MonthSums, StandIn, Tariff, sum_month};
 
 // The place of the first price that no source takes, or their count where every one is in range.
 fn first_refused(month: u16, prices: &[i32]) -> usize
@@ -62,10 +62,11 @@ pub(crate) fn sums_of(input: Input) -> Result<MonthSums, Complaint>
         hours,
     } = input;
     let mut source = source_of(terms.month, terms.price, hours.prices)?;
+    let sale = terms.sale;
+    let tariff = Tariff { marks, sale };
     match sum_month(
         terms.month,
-        marks,
-        terms.sale,
+        tariff,
         hours.readings.as_slice(),
         &mut source,
     ) {

@@ -1,22 +1,23 @@
 -- How far a run has come: what a turn of its loop keeps, and what it comes to.
-use Rattle.std.proofs.Common.{◌≡◌, ℕ, zero, suc, ◌+◌, ◌<◌, ◌≤◌, Bool, true, false, cond, List, [], ◌∷◌, ◌++◌, length, take, drop, is_err, IfOk, IfErr, Some, None, Ok, Err, Option, Result, sym, refl, ap, ◌∙◌, subst, inl, inr, append_assoc, append-nil, arith}
+use Rattle.std.proofs.Common.{◌≡◌, ℕ, zero, suc, ◌+◌, ◌<◌, ◌≤◌, ◌⊎◌, Bool, true, false, cond, List, [], ◌∷◌, ◌++◌, length, take, drop, OnErr, Some, None, Ok, Err, Option, Result, sym, refl, ap, ◌∙◌, subst, inl, inr, append_assoc, append-nil, arith}
 use Rattle.std.proofs.lemmas.List.{flat_map_more}
 use Rattle.std.specs.List.{flat_map}
+use Rattle.std.specs.Option.{ok_or}
 use Rattle.std.specs.declared.alloc.AllocError.{AllocError}
 use Rattle.faults.specs.declared.ProgramFault.{ProgramFault}
-use Rattle.settlement.specs.Metering.{MeterAccount}
-use Rattle.settlement.specs.Billing.{BillAccount}
-use Rattle.records.specs.Frames.{Framed, framed, first_frame, head_kind, whole}
+use Rattle.faults.specs.declared.ProgramFault.TheVariants.{FileEnds}
+use Rattle.records.specs.Frames.{Framed, framed, first_frame, head_kind, head_length, whole, found, behind, Gives}
+use Rattle.records.specs.declared.frames.Frames.{Frames}
+use Rattle.records.specs.declared.frames.Placed.{Placed}
 use Rattle.records.specs.Records.{decoded}
 use Rattle.records.proofs.Heads.{framed_parts, framed_joined}
-use Rattle.answers.specs.Said.{Said}
 use Rattle.answers.specs.Answers.{refusal_text}
 use Rattle.answers.proofs.Said.{refusal_some}
 use Rattle.desk.specs.declared.steps.Desk.{Desk}
 use Rattle.desk.specs.State.{State, outset}
 use Rattle.desk.specs.Outcome.{Outcome}
-use Rattle.desk.specs.Means.{Came, Means}
-use Rattle.report.specs.Runs.{Entry, Trace, says, handled, outcome, answer_text, entry_text, first, entry_at, traced, trace, end_text, trace_text, report_text}
+use Rattle.desk.specs.Means.{Means}
+use Rattle.report.specs.Runs.{Entry, Trace, says, read_of, handled, outcome, answer_text, entry_text, first, entry_at, traced, trace, end_text, trace_text, report_text}
 use Rattle.report.specs.Laws.{Follows, ReadsPrices, NeedsMemory}
 use Rattle.report.proofs.Traces.{traced_some, traced_none}
 
@@ -25,19 +26,25 @@ abbrev onto : List Entry → Trace → Trace
 onto es t = record { entries = es ++ t.entries; stop = t.stop; rest = t.rest }
 
 -- the records before `rest`, which begins at place `at`, have printed out, and the desk stands where they left it
-pub record Sofar (all out : List ℕ) (d : Desk) (m : MeterAccount) (b : BillAccount) (at : ℕ) (rest : List ℕ) : Type 0 where
+pub record Going (all out : List ℕ) (d : Desk) (at : ℕ) (rest : List ℕ) : Type 0 where
   pub past : List Entry
   pub fuel : ℕ
   pub state : State
   pub enough : length rest ≤ fuel
   pub place : at + length rest ≡ length all
-  pub means : Means d m b state
+  pub means : Means d state
   pub entries : trace all ≡ onto past (traced fuel state at rest)
   pub text : out ≡ flat_map entry_text past
 
+-- so far the run goes on, or the file has ended in a record and all was printed
+abbrev pub Sofar : List ℕ → List ℕ → Desk → ℕ → List ℕ → Type 0
+Sofar all out d at rest = Going all out d at rest ⊎ ((rest ≡ []) × (out ≡ report_text all))
+
 -- at the beginning
-pub start : (all out : List ℕ) (d : Desk) (m : MeterAccount) (b : BillAccount) → out ≡ [] → Means d m b outset → Sofar all out d m b 0 all
-start all out d m b e means = record { past = []; fuel = length all; state = outset; enough = omega arith; place = omega arith; means = means; entries = refl; text = e }
+pub start : (all out : List ℕ) (d : Desk) (s : Frames) → out ≡ [] → Means d outset → s.place ≡ 0 → s.rest.now ≡ all → Sofar all out d s.place s.rest.now
+start all out d s e means place rest =
+    let begun : Going all out d 0 all = record { past = []; fuel = length all; state = outset; enough = omega arith; place = omega arith; means = means; entries = refl; text = e } in
+    subst (λ (n : ℕ). Sofar all out d n s.rest.now) (sym place) (subst (Sofar all out d 0) (sym rest) (inl begun))
 
 -- two texts that are nothing together are nothing each
 no_front : (xs ys : List ℕ) → xs ++ ys ≡ [] → xs ≡ []
@@ -79,7 +86,7 @@ says_framed at s bs f e =
     ap (λ k. decoded k (drop 4 (take (4 + length f.payload) bs))) (head_is (take (4 + length f.payload) bs) (whole (take (4 + length f.payload) bs)) f.kind f.payload [] refl j.alone)
     ∙ ap (λ p. decoded f.kind p) (sym j.payload_is)
 
-module _ (all out : List ℕ) (d : Desk) (m : MeterAccount) (b : BillAccount) (at : ℕ) (rest : List ℕ) (sofar : Sofar all out d m b at rest) (f : Framed) (framed_so : framed rest ≡ Some f) where
+module _ (all out : List ℕ) (d : Desk) (at : ℕ) (rest : List ℕ) (sofar : Going all out d at rest) (f : Framed) (framed_so : framed rest ≡ Some f) where
   -- the record that comes next
   abbrev next : Entry
   next = entry_at at sofar.state rest f
@@ -110,37 +117,34 @@ module _ (all out : List ℕ) (d : Desk) (m : MeterAccount) (b : BillAccount) (a
   outcome_is = ap (handled sofar.state) (says_framed at sofar.state rest f framed_so)
 
   -- one record more
-  pub one_more : (out' : List ℕ) (d' : Desk) (m' : MeterAccount) (b' : BillAccount) (r : Result Said ProgramFault) → Came (handled sofar.state (decoded f.kind f.payload)) r (Means d' m' b') →
-      out' ≡ out ++ answer_text at r → Sofar all out' d' m' b' (at + (4 + length f.payload)) f.rest
-  one_more out' d' m' b' r came e =
+  pub one_more : (out' : List ℕ) (d' : Desk) → Means d' (handled sofar.state (decoded f.kind f.payload)).after → out' ≡ out ++ answer_text at (handled sofar.state (decoded f.kind f.payload)).answer →
+      Going all out' d' (at + (4 + length f.payload)) f.rest
+  one_more out' d' means e =
       let p = (framed_parts rest f framed_so).rest_length in
-      let same = outcome_is in
       record {
         past = sofar.past ++ (next ∷ []);
         fuel = the_step.fuel;
         state = (outcome next).after;
         enough = the_step.enough;
         place = omega (arith, sofar.place);
-        means = subst (λ (o : Outcome State). Means d' m' b' o.after) (sym same) came.1;
+        means = subst (λ (o : Outcome State). Means d' o.after) (sym outcome_is) means;
         entries = the_step.entries;
-        text = e ∙ ap (λ o. o ++ answer_text at r) sofar.text ∙ ap (λ a. flat_map entry_text sofar.past ++ answer_text at a) (sym came.0 ∙ ap (λ (o : Outcome State). o.answer) (sym same)) ∙ sym (joined_one sofar.past next);
+        text = e ∙ ap (λ o. o ++ answer_text at (handled sofar.state (decoded f.kind f.payload)).answer) sofar.text
+            ∙ ap (λ (o : Outcome State). flat_map entry_text sofar.past ++ answer_text at o.answer) (sym outcome_is) ∙ sym (joined_one sofar.past next);
       }
 
-  -- memory is wanting for its prices
-  pub wants_prices : ReadsPrices (decoded f.kind f.payload) → NeedsMemory all
-  wants_prices brings = inr (sofar.past, next, follows, subst ReadsPrices (sym (says_framed at sofar.state rest f framed_so)) brings)
-
-  -- or for its text
-  pub wants_text : (r : Result Said ProgramFault) (After : State → Type 0) → Came (handled sofar.state (decoded f.kind f.payload)) r After → (answer_text at r ≡ [] → ⊥) → NeedsMemory all
-  wants_text r After came some =
-      inl (λ none. some (ap (answer_text at) (sym came.0 ∙ ap (λ (o : Outcome State). o.answer) (sym outcome_is)) ∙ nothing_in sofar.past next follows.0 _ (ap (λ es. flat_map entry_text es ++ end_text (trace all).stop (trace all).rest) (sym follows.1) ∙ none)))
+  -- memory was wanting for its text, or for its prices
+  pub wants : ((answer_text at (handled sofar.state (decoded f.kind f.payload)).answer ≡ [] → ⊥) ⊎ ReadsPrices (decoded f.kind f.payload)) → NeedsMemory all
+  wants (inl some) =
+      inl (λ none. some (ap (λ (o : Outcome State). answer_text at o.answer) (sym outcome_is) ∙ nothing_in sofar.past next follows.0 _ (ap (λ es. flat_map entry_text es ++ end_text (trace all).stop (trace all).rest) (sym follows.1) ∙ none)))
+  wants (inr brings) = inr (sofar.past, next, follows, subst ReadsPrices (sym (says_framed at sofar.state rest f framed_so)) brings)
 
 -- the end of a file that ends in a record
 ended_by : (text out : List ℕ) (at : ℕ) (rest : List ℕ) → 0 < length rest → text ≡ out ++ end_text at rest → out ++ refusal_text at 31 ≡ text
 ended_by text out at [] some e = absurd (omega arith)
 ended_by text out at (x ∷ rest) some e = sym e
 
-module _ (all out : List ℕ) (d : Desk) (m : MeterAccount) (b : BillAccount) (at : ℕ) (rest : List ℕ) (sofar : Sofar all out d m b at rest) (none : framed rest ≡ None) where
+module _ (all out : List ℕ) (d : Desk) (at : ℕ) (rest : List ℕ) (sofar : Going all out d at rest) (none : framed rest ≡ None) where
   -- where no whole record follows, the text is that of the records so far and of the end
   text_so : report_text all ≡ out ++ end_text at rest
   text_so =
@@ -156,12 +160,65 @@ module _ (all out : List ℕ) (d : Desk) (m : MeterAccount) (b : BillAccount) (a
   pub wants_end : 0 < length rest → NeedsMemory all
   wants_end some = inl (λ empty. refusal_some at 31 (no_back out (refusal_text at 31) (ended some ∙ empty)))
 
--- at the end of the file
-pub finished : (all out : List ℕ) (d : Desk) (m : MeterAccount) (b : BillAccount) (at : ℕ) (rest : List ℕ) → Sofar all out d m b at rest → length rest ≡ 0 → out ≡ report_text all
-finished all out d m b at [] sofar e = sym (text_so all out d m b at [] sofar refl ∙ append-nil out)
-finished all out d m b at (x ∷ rest) sofar e = absurd (omega arith)
+-- what is behind the record at the front
+behind_some : (bs : List ℕ) (b : Bool) (f : Framed) → whole bs ≡ b → cond b (Some (first_frame bs)) None ≡ Some f → cond b (drop (4 + head_length bs) bs) [] ≡ f.rest
+behind_some bs false f w e = let z : ◌≡◌ {A = ℕ} 0 1 = cc in absurd (omega arith)
+behind_some bs true f w e = let q : first_frame bs ≡ f = cc in ap (λ (g : Framed). g.rest) q
 
--- want of memory, told by an error
-pub wanting : {T : Type 0} (r : Result T AllocError) (P : T → Type 0) (N : Type 0) → is_err r ≡ true → N → IfOk r P × IfErr r (λ _. N)
-wanting (Ok x) P N e n = let z : ◌≡◌ {A = ℕ} 0 1 = cc in absurd (omega arith)
-wanting (Err y) P N e n = (tt, n)
+behind_none : (bs : List ℕ) (b : Bool) → whole bs ≡ b → cond b (Some (first_frame bs)) None ≡ None → cond b (drop (4 + head_length bs) bs) [] ≡ []
+behind_none bs false w e = refl
+behind_none bs true w e = let z : ◌≡◌ {A = ℕ} 0 1 = cc in absurd (omega arith)
+
+module _ (all out : List ℕ) (d : Desk) (at : ℕ) (rest : List ℕ) (sofar : Going all out d at rest) (some : 0 < length rest) where
+  -- what comes of what was found there
+  abbrev comes : Option Framed → Outcome State
+  comes o = handled sofar.state (read_of (ok_or o FileEnds))
+
+  -- after it was served
+  served : (o : Option Framed) → framed rest ≡ o → (out' : List ℕ) (d' : Desk) (at' : ℕ) (rest' : List ℕ) → Means d' (comes o).after → out' ≡ out ++ answer_text at (comes o).answer →
+      rest' ≡ behind rest → at' + length rest' ≡ at + length rest → Sofar all out' d' at' rest'
+  served (Some f) is out' d' at' rest' means e er ea =
+      let same : rest' ≡ f.rest = er ∙ behind_some rest (whole rest) f refl is in
+      let p = (framed_parts rest f is).rest_length in
+      let l = ap (λ (bs : List ℕ). length bs) same in
+      let place : at' ≡ at + (4 + length f.payload) = omega arith in
+      inl (subst (λ (n : ℕ). Going all out' d' n rest') (sym place) (subst (Going all out' d' (at + (4 + length f.payload))) (sym same) (one_more all out d at rest sofar f is out' d' means e)))
+  served None is out' d' at' rest' means e er ea = inr (er ∙ behind_none rest (whole rest) refl is, e ∙ ended all out d at rest sofar is some)
+
+  -- and where memory was wanting for it
+  wanted : (o : Option Framed) → framed rest ≡ o → ((answer_text at (comes o).answer ≡ [] → ⊥) ⊎ ReadsPrices (read_of (ok_or o FileEnds))) → NeedsMemory all
+  wanted (Some f) is w = wants all out d at rest sofar f is w
+  wanted None is w = wants_end all out d at rest sofar is some
+
+module _ (all out : List ℕ) (d : Desk) (s t : Frames) (p : Placed) (gives : Gives s p t) where
+  -- the loop goes on after a record
+  pub goes_on : (out' : List ℕ) (d' : Desk) → Sofar all out d s.place s.rest.now →
+      ((st : State) → Means d st → Means d' (handled st (read_of (found p.frame))).after) → ((st : State) → Means d st → out' ≡ out ++ answer_text p.place (handled st (read_of (found p.frame))).answer) →
+      Sofar all out' d' t.place t.rest.now
+  goes_on out' d' (inl sofar) stands text =
+      served all out d s.place s.rest.now sofar gives.some (framed s.rest.now) refl out' d' t.place t.rest.now
+      (subst (λ (f : Result Framed ProgramFault). Means d' (handled sofar.state (read_of f)).after) gives.frame (stands sofar.state sofar.means))
+      (text sofar.state sofar.means ∙ ap (λ (n : ℕ). out ++ answer_text n (handled sofar.state (read_of (found p.frame))).answer) gives.place
+      ∙ ap (λ (f : Result Framed ProgramFault). out ++ answer_text s.place (handled sofar.state (read_of f)).answer) gives.frame)
+      gives.behind gives.end
+  goes_on out' d' (inr over) stands text = absurd (omega (arith, gives.some, ap (λ (bs : List ℕ). length bs) over.0))
+
+  -- and where memory was wanting
+  pub stops_for : Sofar all out d s.place s.rest.now →
+      ((st : State) → Means d st → (answer_text p.place (handled st (read_of (found p.frame))).answer ≡ [] → ⊥) ⊎ ReadsPrices (read_of (found p.frame))) → NeedsMemory all
+  stops_for (inl sofar) w =
+      wanted all out d s.place s.rest.now sofar gives.some (framed s.rest.now) refl
+      (subst (λ (f : Result Framed ProgramFault). (answer_text s.place (handled sofar.state (read_of f)).answer ≡ [] → ⊥) ⊎ ReadsPrices (read_of f)) gives.frame
+      (subst (λ (n : ℕ). (answer_text n (handled sofar.state (read_of (found p.frame))).answer ≡ [] → ⊥) ⊎ ReadsPrices (read_of (found p.frame))) gives.place (w sofar.state sofar.means)))
+  stops_for (inr over) w = absurd (omega (arith, gives.some, ap (λ (bs : List ℕ). length bs) over.0))
+
+-- at the end of the file
+pub finished : (all out : List ℕ) (d : Desk) (at : ℕ) (rest : List ℕ) → Sofar all out d at rest → rest ≡ [] → out ≡ report_text all
+finished all out d at [] (inl sofar) e = sym (text_so all out d at [] sofar refl ∙ append-nil out)
+finished all out d at (x ∷ rest) (inl sofar) e = let z : ◌≡◌ {A = ℕ} 0 1 = cc in absurd (omega arith)
+finished all out d at rest (inr over) e = over.1
+
+-- what holds holds at an error
+pub at_error : {T : Type 0} (r : Result T AllocError) (N : Type 0) → N → OnErr r N
+at_error (Ok x) N n = tt
+at_error (Err y) N n = n

@@ -1,5 +1,5 @@
 -- What holds of every run, in the words of a record file and its accounts.
-use Rattle.std.specs.Prelude.{◌≡◌, ℕ, ◌+◌, ◌⊎◌, List, [], ◌∷◌, ◌++◌, length, None, Ok, Err, ◌≢◌}
+use Rattle.std.specs.Prelude.{◌≡◌, ℕ, ◌+◌, ◌⊎◌, List, [], ◌∷◌, ◌++◌, length, None, Ok, Err, Result, ◌≢◌}
 use Rattle.std.specs.List.{flat_map}
 use Rattle.faults.specs.declared.AccountFault.{AccountFault}
 use Rattle.faults.specs.declared.ProgramFault.{ProgramFault}
@@ -8,9 +8,15 @@ use Rattle.faults.specs.Numbers.{program_number}
 use Rattle.records.specs.Frames.{framed, head_length}
 use Rattle.records.specs.Records.{Read}
 use Rattle.records.specs.Records.Rec.{finish}
+use Rattle.settlement.specs.declared.answers.Line.{Line}
+use Rattle.answers.specs.declared.kinds.Answer.{Answer}
 use Rattle.answers.specs.Answers.{refusal_text}
-use Rattle.desk.specs.Means.{BringsPrices}
-use Rattle.report.specs.Runs.{Entry, says, outcome, entry_text, trace, report_text}
+use Rattle.answers.specs.Said.{said}
+use Rattle.desk.specs.declared.step_fault.StepFault.{StepFault}
+use Rattle.desk.specs.declared.step_fault.StepFault.TheVariants.{Refused as refused, NoMemory}
+use Rattle.desk.specs.State.{State}
+use Rattle.desk.specs.Means.{BringsPrices, Came}
+use Rattle.report.specs.Runs.{Entry, handled, says, outcome, entry_text, trace, report_text}
 use Rattle.report.specs.Past.{past_of, Keeps}
 
 -- the bytes of records, one after another
@@ -64,6 +70,12 @@ PromisesKept input = (earlier : List Entry) (e : Entry) → Follows input earlie
 abbrev pub ReadsPrices : Read → Type 0
 ReadsPrices (Ok said) = BringsPrices said
 ReadsPrices (Err fault) = ⊥
+
+-- a step handled what was read as it is defined, with its lines in the caller's list; memory can be wanting only for hour prices
+abbrev pub Handled : State → Read → Result Answer StepFault → List Line → (State → Type 0) → Type 0
+Handled s read (Ok answer) lines Stands = Came (handled s read) (Ok (said answer lines)) Stands
+Handled s read (Err (refused fault)) lines Stands = Came (handled s read) (Err fault) Stands
+Handled s read (Err NoMemory) lines Stands = ReadsPrices read
 
 -- a record of the run brings hour prices
 abbrev pub KeepsPrices : List ℕ → Type 0

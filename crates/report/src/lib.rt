@@ -2,5 +2,6 @@
 #![tactic(auto)]
 
 mod run;
+mod workplace;
 
 pub use run::report;

@@ -36,11 +36,6 @@ pub has_plain : {T : Type 0} (t : Slot → T) (m : ℕ) (ss : List Slot) → has
 has_plain t m [] = refl
 has_plain t m (s ∷ ss) = ap (λ b. cond (eqb s.month m) true b) (has_plain t m ss)
 
--- Whatever the terms, the rows have the same amounts left.
-pub lefts_plain : {T : Type 0} (t : Slot → T) (ss : List Slot) → map (λ s. (plain s).left) ss ≡ map (λ p. p.left) (map (reads t) ss)
-lefts_plain t [] = refl
-lefts_plain t (s ∷ ss) = ap (λ zs. (plain s).left ∷ zs) (lefts_plain t ss)
-
 -- A search of the rows for the month.
 pub any_has : (m : ℕ) (ss : List Slot) → list_any (λ s. eqb s.month m) ss ≡ has m (map plain ss)
 any_has m [] = refl

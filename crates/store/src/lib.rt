@@ -16,7 +16,7 @@ mod totals;
 pub use totals::Totals;
 
 // Portions of the kind K in the caller's slots, the open ones in the rows in use, oldest first.
-// Before an opening is accepted the month is 0, and so are the totals.
+// The flag stands beside the month and the totals, since a store that is not open yet tells them too, as 0.
 #[derive(Drop)]
 pub struct Store<'a, K: Kind> {
     rows: Rows<'a>,

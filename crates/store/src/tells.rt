@@ -17,6 +17,13 @@ impl<'a, K: Kind> Store<'a, K> {
         self.rows.slots.len()
     }
 
+    // Whether an opening was accepted.
+    pub fn is_open(&self) -> bool
+        ensures { result ≡ (ledger_of K.Kind self.now).opened }
+    {
+        self.opened
+    }
+
     // The current month.
     pub fn month(&self) -> u16
         ensures { result ≡ (ledger_of K.Kind self.now).month }
@@ -35,18 +42,15 @@ impl<'a, K: Kind> Store<'a, K> {
     pub fn portion(&self, place: usize) -> Option<K>
         ensures { told K.Kind.means result ≡ slice_get (ledger_of K.Kind self.now).portions place }
     {
-        if place >= self.rows.filled {
-            return None;
-        }
-        let row = self.rows.slots[place];
-        Some(K::of(&row))
+        let row = self.rows.in_use().get(place)?;
+        Some(K::of(row))
     }
 
     // What is left in each open portion, oldest first.
     pub fn lefts(&self) -> Amounts
         ensures { listed result ≡ lefts (ledger_of K.Kind self.now) }
     {
-        self.rows.lefts()
+        self.rows.lefts::<K>()
     }
 
     // The totals of what was entered, used, refunded and lost.

@@ -34,7 +34,6 @@ impl<'a> Billing<'a> {
             bill: 0,
             percentage: 0,
             state: MonthState::Waiting,
-            opened: false,
         }
     }
 
@@ -62,7 +61,6 @@ impl<'a> Billing<'a> {
         self.bill = 0;
         self.percentage = percentage;
         self.state = MonthState::Waiting;
-        self.opened = true;
         Ok(())
     }
 

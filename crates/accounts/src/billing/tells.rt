@@ -17,7 +17,7 @@ impl<'a> Billing<'a> {
         ensures { result ≡ billing.standing (billed self.now) }
     {
         Standing {
-            opened: self.opened,
+            opened: self.store.is_open(),
             month: self.store.month(),
             state: self.state,
             ends: true,

@@ -44,7 +44,6 @@ impl<'a> Metering<'a> {
             coefficient: Coefficient::Eight,
             period: Period::Monthly,
             state: MonthState::Waiting,
-            opened: false,
         }
     }
 
@@ -74,7 +73,6 @@ impl<'a> Metering<'a> {
         self.coefficient = Coefficient::of_power(power);
         self.period = period;
         self.state = MonthState::Waiting;
-        self.opened = true;
         Ok(())
     }
 

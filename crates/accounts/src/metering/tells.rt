@@ -17,9 +17,10 @@ impl<'a> Metering<'a> {
     pub fn standing(&self) -> Standing
         ensures { result ≡ metering.standing (metered self.now) }
     {
-        let month = self.meters.stores.one.month();
+        let one = &self.meters.stores.one;
+        let month = one.month();
         Standing {
-            opened: self.opened,
+            opened: one.is_open(),
             month,
             state: self.state,
             ends: self.period.ends(month),

@@ -14,7 +14,7 @@ use portions::{Kind, Slot};
 
 impl<'a> Rows<'a> {
     // The rows in use.
-    fn in_use(&self) -> &[Slot]
+    pub(crate) fn in_use(&self) -> &[Slot]
         ensures { result.now ≡ held self.now }
     {
         &self.slots[..self.filled]
@@ -60,10 +60,10 @@ impl<'a> Rows<'a> {
     }
 
     // The amounts left in the rows in use.
-    pub(crate) fn lefts(&self) -> Amounts
-        ensures { listed result ≡ map (λ s. (plain s).left) (held self.now) }
+    pub(crate) fn lefts<K: Kind>(&self) -> Amounts
+        ensures { listed result ≡ map (λ p. p.left) (map (reads K.Kind.term) (held self.now)) }
     {
-        lefts(self.in_use())
+        lefts::<K>(self.in_use())
     }
 
     // Takes from each row in use.

@@ -9,7 +9,7 @@ ghost use Rattle.store.specs.Sound.{rises};
 ghost use Rattle.store.specs.Ending.{refund_in, loss_in};
 
 use portions::amounts::Amounts;
-use portions::{Kind, LARGEST_AMOUNT, Slot};
+use portions::{Kind, Slot};
 
 // The refunds and the losses of the portions that a turn ends, summed.
 #[derive(Clone, Copy)]
@@ -58,21 +58,14 @@ pub(super) fn end_each<K: Kind>(rows: &[Slot]) -> Ended
     Ended { refunded, lost }
 }
 
-// What the portion in a row has left.
-fn left_in(row: &Slot) -> u32
-    ensures { result ≡ (plain row.now).left }
-{
-    row.left.min(row.entered.min(LARGEST_AMOUNT))
-}
-
 // The amounts left in the rows, of which there are at most 16.
-pub(super) fn lefts(rows: &[Slot]) -> Amounts
+pub(super) fn lefts<K: Kind>(rows: &[Slot]) -> Amounts
     requires { length rows.now ≤ 16 }
-    ensures { listed result ≡ map (λ s. (plain s).left) rows.now }
+    ensures { listed result ≡ map (λ p. p.left) (map (reads K.Kind.term) rows.now) }
 {
     let mut all = Amounts::new();
     for row in rows {
-        all.push(left_in(row));
+        all.push(K::of(row).left());
     }
     all
 }
@@ -91,6 +84,7 @@ pub(super) fn take_each<K: Kind>(rows: &mut [Slot], takings: &[u32])
     requires { length takings.now ≡ length rows.old }
     ensures { map (reads K.Kind.term) rows.new ≡ taking takings.now (map (reads K.Kind.term) rows.old) }
 {
+    // By place: of what a loop over `iter_mut().zip(..)` writes a proof knows nothing afterwards.
     for (i, n) in takings.iter().enumerate() {
         rows[i] = taken::<K>(&rows[i], *n);
     }

@@ -1,31 +1,45 @@
+use Rattle.std.proofs.Common.{◌≡◌, Err, Result, length, sym, ap, ◌∙◌, subst, rules}
+use Rattle.std.specs.Result.{IfOk, result_err}
+use Rattle.std.proofs.lemmas.Result.{err_from_is_err_and}
+use Rattle.hours.specs.Opening.{Opened}
+use Rattle.hours.specs.Source.{prices_of}
+use Rattle.hours.specs.Whole.{MonthSummed, month_refusal}
+use Rattle.hours.specs.declared.book.Book.{Book}
+use Rattle.hours.specs.declared.sums.MonthSums.{MonthSums}
+use Rattle.hours.specs.declared.whole.MonthRefused.{MonthRefused}
+use Rattle.hours.proofs.Months.{by_result}
 use Rattle.hours.proofs.Closing.{finished_month, unfinished_month, asked_month}
 use Rattle.hours.proofs.whole.sum_month.Goals as goal
 
-pub returns-in-Ok-finish : goal.returns-in-Ok-finish
-returns-in-Ok-finish g c =
-    let o = c.in-Ok.ensures.opened in
+pub returns : goal.returns
+returns g c =
+    let G = g.S.PriceSource in
+    let m = c.args.month in
+    let marks = c.args.tariff.marks in
+    let sale = c.args.tariff.sale in
+    let rs = c.args.readings.now in
+    let b = c.in_ok-book.book in
+    let b' = c.read_all.new.book in
     let e = c.in_ok-read_all.ensures in
-    let w =
-    finished_month g.S.PriceSource c.args.source.now c.args.month c.args.marks c.args.sale c.args.readings.now
-    c.in-Ok.book.terms c.read_all.new.book.terms c.in-Ok.book.tally c.read_all.new.book.tally
-    c.in-Ok-finish.sums.month c.in-Ok-finish.sums.totals o e.terms e.refusal e.history c.in-Ok-finish.ensures.sums in
-    record {
-      refusal = w.0;
-      sums = w.1;
-      asked = asked_month g.S.PriceSource c.args.source.now c.args.month c.args.marks c.args.sale c.args.readings.now
-          c.in-Ok.book.terms c.in-Ok.book.tally _ o e.asked;
-    }
-
-pub returns-in-Err-finish : goal.returns-in-Err-finish
-returns-in-Err-finish g c =
-    let o = c.in-Ok.ensures.opened in
-    let e = c.in_ok-read_all.ensures in
-    let f = c.in-Err-finish.ensures.sums in
-    record {
-      refusal = unfinished_month g.S.PriceSource c.args.source.now c.args.month c.args.marks c.args.sale c.args.readings.now
-          c.in-Ok.book.terms c.read_all.new.book.terms c.in-Ok.book.tally c.read_all.new.book.tally
-          c.in-Err-finish.unfinished.fault o e.terms e.refusal e.history f.0 f.1;
-      sums = tt;
-      asked = asked_month g.S.PriceSource c.args.source.now c.args.month c.args.marks c.args.sale c.args.readings.now
-          c.in-Ok.book.terms c.in-Ok.book.tally _ o e.asked;
-    }
+    let o : Opened m marks sale b.terms b.tally =
+    by_result c.open.result
+    (λ x q.
+    let k : ◌≡◌ {A = Book} x b = let e = rw q at c.in_ok-book.ensures.cases in cc in
+    subst (λ (y : Book). Opened m marks sale y.terms y.tally) k (rw q at c.open.ensures.opened))
+    (λ f q. absurd (rw q at c.in_ok-book.ensures.cases)) in
+    let Comes : Result MonthSums MonthRefused → Type 0 =
+    λ r. (result_err r ≡ month_refusal m marks sale (prices_of G c.args.source.now m) rs)
+    × IfOk r (λ s. MonthSummed m marks sale (prices_of G c.args.source.now m) rs s.month s.totals) in
+    let comes : Comes c.map_err-2.result =
+    by_result c.finish.result
+    (λ s q.
+    let k = rw q at c.map_err-2.ensures.cases in
+    let f = rw q at c.finish.ensures.sums in
+    subst Comes (sym k) (finished_month G c.args.source.now m marks sale rs b.terms b'.terms b.tally b'.tally s.month s.totals o e.terms e.refusal e.history f))
+    (λ u q.
+    let f = rw q at c.finish.ensures.sums in
+    let p = err_from_is_err_and c.map_err-2.result (rw q at c.map_err-2.ensures.cases) in
+    let d : ◌≡◌ {A = MonthRefused} p.0 (record { read = length rs; fault = u.fault }) = search rules in
+    subst Comes (sym (p.1 ∙ ap Err d))
+    (unfinished_month G c.args.source.now m marks sale rs b.terms b'.terms b.tally b'.tally u.fault o e.terms e.refusal e.history f.0 f.1, tt)) in
+    record { refusal = comes.0; sums = comes.1; asked = asked_month G c.args.source.now m marks sale rs b.terms b.tally _ o e.asked }

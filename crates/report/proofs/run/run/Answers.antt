@@ -1,53 +1,18 @@
-use Rattle.std.proofs.Common.{◌<◌, ◌++◌, length, string_bytes, sym, ap, ◌∙◌, arith, rules}
-use Rattle.answers.specs.Answers.{refusal_text}
-use Rattle.records.specs.Frames.{Framed}
-use Rattle.records.proofs.Heads.{framed_parts}
-use Rattle.accounts.specs.Metered.{metered}
-use Rattle.accounts.specs.Billed.{billed}
-use Rattle.desk.specs.Means.{Means}
-use Rattle.report.proofs.Sofar.{start, one_more, finished, ended, wants_end, wants_prices, wants_text, wanting}
+use Rattle.std.proofs.Common.{ap, ◌∙◌}
+use Rattle.records.specs.declared.frames.Frames.{Frames}
+use Rattle.report.proofs.Sofar.{start, goes_on, stops_for, finished, at_error}
 use Rattle.report.proofs.run.run.Goals as goal
 
-pub loop-rest-init : goal.loop-rest-init
-loop-rest-init c = (start _ _ _ _ _ c.new-out.ensures.bytes (c.new-desk.ensures (metered c.args.metering.now) (billed c.args.billing.now)), c.requires.slots, c.requires.room, c.requires.lines)
+pub loop-placed-init : goal.loop-placed-init
+loop-placed-init c =
+    let made = c.into_iter-placed-iterator.ensures.into_iter_gives in
+    start _ _ _ c.into_iter-placed-iterator.result c.new-out.ensures.bytes c.requires (ap (λ (s : Frames). s.place) made ∙ c.new-placed-items.ensures.place) (ap (λ (s : Frames). s.rest.now) made ∙ c.new-placed-items.ensures.rest)
 
-pub returns-in_err-print_refusal : goal.returns-in_err-print_refusal
-returns-in_err-print_refusal c =
-    let some : 0 < length c.loop-rest.rest.now = search rules in
-    let w = wanting _ _ _ c.from_residual.ensures.0 (wants_end _ _ _ _ _ _ _ c.loop-rest.invariant.0 (sym c.in_default.ensures) some) in
-    record { text = w.0; wanting = w.1 }
+pub loop-placed-preserved : goal.loop-placed-preserved
+loop-placed-preserved c = goes_on _ _ _ _ _ _ c.in-Some.ensures.steps _ _ c.loop-placed.invariant c.in_ok-serve.ensures.stands c.in_ok-serve.ensures.text
 
-pub returns-in_default : goal.returns-in_default
-returns-in_default c =
-    let some : 0 < length c.loop-rest.rest.now = search rules in
-    record { text = c.in_ok-print_refusal.ensures.text ∙ ap (λ n. string_bytes c.loop-rest.out ++ refusal_text c.loop-rest.place n) c.number.ensures ∙ ended _ _ _ _ _ _ _ c.loop-rest.invariant.0 (sym c.in_default.ensures) some; wanting = tt }
+pub returns-in_err-serve-clause-wanting : goal.returns-in_err-serve-clause-wanting
+returns-in_err-serve-clause-wanting c = at_error _ _ (stops_for _ _ _ _ _ _ c.in-Some.ensures.steps c.loop-placed.invariant c.in_err-serve.ensures.wanting)
 
-pub returns-in_err-answer : goal.returns-in_err-answer
-returns-in_err-answer c =
-    let f : Framed = record { kind = c.in-Some.frame.kind; payload = c.in-Some.frame.payload.now; rest = c.in-Some.frame.rest.now } in
-    let so = c.loop-rest.invariant.0 in
-    let w = wanting _ _ _ c.from_residual-in_err-answer.ensures.0 (wants_prices _ _ _ _ _ _ _ so f (sym c.in-Some.ensures) (c.in_err-answer.ensures.came so.state so.means)) in
-    record { text = w.0; wanting = w.1 }
-
-pub returns-in_err-print : goal.returns-in_err-print
-returns-in_err-print c =
-    let f : Framed = record { kind = c.in-Some.frame.kind; payload = c.in-Some.frame.payload.now; rest = c.in-Some.frame.rest.now } in
-    let so = c.loop-rest.invariant.0 in
-    let w = wanting _ _ _ c.from_residual-in_err-print.ensures.0 (wants_text _ _ _ _ _ _ _ so f (sym c.in-Some.ensures) _ (Means c.step.new.desk (metered c.step.new.metering) (billed c.step.new.billing)) (c.in_ok-answer.ensures.came so.state so.means) c.in_err-print.ensures.wanting) in
-    record { text = w.0; wanting = w.1 }
-
-pub loop-rest-smaller : goal.loop-rest-smaller
-loop-rest-smaller c = let p = framed_parts c.loop-rest.rest.now _ (sym c.in-Some.ensures) in omega (arith, p.rest_length)
-
-pub loop-rest-preserved : goal.loop-rest-preserved
-loop-rest-preserved c =
-    let f : Framed = record { kind = c.in-Some.frame.kind; payload = c.in-Some.frame.payload.now; rest = c.in-Some.frame.rest.now } in
-    let so = c.loop-rest.invariant.0 in (
-      one_more _ _ _ _ _ _ _ so f (sym c.in-Some.ensures) _ _ _ _ _ (c.in_ok-answer.ensures.came so.state so.means) c.in_ok-print.ensures.text,
-      c.step.ensures.slots,
-      c.step.ensures.room,
-      c.step.auto.lines ∙ c.loop-rest.invariant.3,
-    )
-
-pub returns : goal.returns
-returns c = record { text = finished _ _ _ _ _ _ _ c.loop-rest.invariant.0 (search rules); wanting = tt }
+pub returns-clause-text : goal.returns-clause-text
+returns-clause-text c = finished _ _ _ _ _ c.loop-placed.invariant c.in-None.ensures.steps.0

@@ -16,5 +16,5 @@ returns-in-Ok c =
     let sums = c.args.sums in
     let e = c.enter_store.ensures in
     let out = enter_accepted billing billing_keeps b sums _ c.standing.ensures _ c.month.ensures.value _ c.in-Ok.ensures _
-    (λ met. entered_bill b _ _ met.is_open sums _ _ _ met.entered c.bill_of-bill.ensures.value c.deposit_of-deposit.ensures.value c.cap_of-cap.ensures e.state) in
+    (λ met. entered_bill b _ _ sums _ _ _ met.entered c.bill_of-bill.ensures.value c.deposit_of-deposit.ensures.value c.cap_of-cap.ensures e.state) in
     record { answer = out.answer; state = out.state; slots = e.slots; promised = out.promised }

@@ -46,5 +46,5 @@ returns g c =
     let count = paid_count rule b l e.state ls c.lefts-before.ensures _ c.write_lines-count.ensures.count in
     let wrote = paid_lines rule b l e.state ls c.lefts-before.ensures d _ c.write_lines-count.ensures.lines in
     let out = settle_accepted billing billing_keeps b rule law d _ c.standing.ensures _ c.in_ok-next.ensures _ (c.paid-payment.ensures ∙ payment_is rule b _ _ e.used count)
-    _ (λ met. paid_bill b _ l met.is_open rule met.settled e.state) _ wrote in
+    _ (λ met. paid_bill b _ l rule met.settled e.state) _ wrote in
     record { answer = out.answer; state = out.state; lines = out.lines; slots = e.slots.accounted; promised = out.promised }

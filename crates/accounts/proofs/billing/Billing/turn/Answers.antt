@@ -14,5 +14,5 @@ pub returns : goal.returns
 returns c =
     let a = billed c.args.self.now in
     let e = c.turn_store-ended.ensures in
-    let out = turn_accepted billing billing_keeps a _ c.standing.ensures _ c.in_ok-next.ensures _ e.refunded e.lost _ (λ is_open next. turned_bill a _ _ is_open next e.state) in
+    let out = turn_accepted billing billing_keeps a _ c.standing.ensures _ c.in_ok-next.ensures _ e.refunded e.lost _ (λ is_open next. turned_bill a _ _ next e.state) in
     record { answer = out.answer; state = out.state; slots = e.slots; promised = out.promised }

@@ -22,7 +22,7 @@ enter-requires c =
     let imports = imports_small sums _ (ap split_by_zone (sym c.from-imports.ensures) ∙ ap split_by_zone c.strike-energies.ensures.0) in
     let few = few_in was.period m was.meters.pending was.state Waiting met.waits was.few in
     record {
-      ready = was.ready met.is_open;
+      ready = met.is_open;
       free = was.free met.waits;
       small = within_more 74500000 100000000 (omega arith) _ exports;
       few = entered_few_in_all was.period m _ (entered_few was.period m was.meters.pending few _ _ Entered m imports refl refl refl);
@@ -39,14 +39,10 @@ invariant_of-self c =
     let few = few_in was.period m was.meters.pending was.state Waiting met.waits was.few in
     let e = c.enter.ensures in
     let one = ap (λ (z : Zones (Ledger (Unit {0}))). z.one) e.stores in
-    let two = ap (λ (z : Zones (Ledger (Unit {0}))). z.two) e.stores in
-    let three = ap (λ (z : Zones (Ledger (Unit {0}))). z.three) e.stores in
-    let is_open : Ledger (Unit {0}) → Bool = λ l. l.opened in
     let next : c.in-Ok.next ≡ Entered = met.entered in
     record {
       few = entered_few was.period m was.meters.pending few _ _ c.in-Ok.next _ imports e.pending next (ap (λ (l : Ledger (Unit {0})). l.month) one);
       free = (λ w. let z : ◌≡◌ {A = ℕ} 0 1 = cc in absurd (omega arith));
-      ready = (λ o. (ap is_open one, ap is_open two, ap is_open three));
     }
 
 pub returns-in-Err : goal.returns-in-Err
@@ -62,5 +58,5 @@ returns-in-Ok c =
     let imports = ap split_by_zone (sym c.from-imports.ensures) ∙ ap split_by_zone c.strike-energies.ensures.0 in
     let e = c.enter.ensures in
     let out = enter_accepted metering metering_keeps a sums _ c.standing.ensures _ c.month.ensures.value _ c.in-Ok.ensures _
-    (λ met. entered_meter a _ _ met.is_open sums _ _ _ met.entered exports imports e.pending e.stores) in
+    (λ met. entered_meter a _ _ _ (ap (λ (z : Zones (Ledger (Unit {0}))). z.one.opened) e.stores) sums _ _ _ met.entered exports imports e.pending e.stores) in
     record { answer = out.answer; state = out.state; slots = e.slots; promised = out.promised }

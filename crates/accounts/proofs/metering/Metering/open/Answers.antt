@@ -1,4 +1,6 @@
-use Rattle.std.proofs.Common.{refl}
+use Rattle.std.proofs.Common.{refl, ap}
+use Rattle.ledger.specs.Ledger.{Ledger}
+use Rattle.settlement.specs.declared.zones.Zones.{Zones}
 use Rattle.settlement.specs.Table.{period_of}
 use Rattle.settlement.specs.Metering.{metering, or_monthly}
 use Rattle.settlement.proofs.Metered.{metering_keeps}
@@ -18,5 +20,5 @@ pub returns : goal.returns
 returns c =
     let o = meter_opening (fewest c.args.self.now.meters.stores) c.args.month c.args.power c.args.months in
     let e = c.open.ensures in
-    let out = open_accepted metering metering_keeps (metered c.args.self.now) o (or_monthly (period_of c.args.months)) _ c.in_ok-period.ensures _ (λ period. opened_meter o _ _ _ _ c.of_power-self.ensures period e.stores e.pending) in
+    let out = open_accepted metering metering_keeps (metered c.args.self.now) o (or_monthly (period_of c.args.months)) _ c.in_ok-period.ensures _ (λ period. opened_meter o _ _ _ _ _ (ap (λ (z : Zones (Ledger (Unit {0}))). z.one.opened) e.stores) c.of_power-self.ensures period e.stores e.pending) in
     record { answer = out.answer; state = out.state; slots = e.slots; promised = out.promised }

@@ -33,7 +33,6 @@ invariant_of-self-2 g c =
     record {
       few = (omega (arith, ap (λ (p : Zones ℕ). p.one) none'), omega (arith, ap (λ (p : Zones ℕ). p.two) none'), omega (arith, ap (λ (p : Zones ℕ). p.three) none'));
       free = (λ w. let z : ◌≡◌ {A = ℕ} 0 1 = cc in absurd (omega arith));
-      ready = (λ o. c.cover_all.ensures.ready);
     }
 
 pub returns : goal.returns
@@ -51,5 +50,5 @@ returns g c =
     let none' : c.default-self.result ≡ all 0 = search rules in
     let covered : c.zip_with.result ≡ each_two (λ p rest. p - rest) a.pending end.rests = search rules in
     let out = settle_accepted metering metering_keeps a rule law d _ c.standing.ensures _ c.in_ok-next.ensures _ (answer_is rule a end e.course before known _ _ covered w.count)
-    _ (λ met. settled_meter rule a end e.course _ _ met.is_open met.settled none') _ (lines_is rule a end e.course before known d _ w.lines) in
+    _ (λ met. settled_meter rule a end e.course _ _ _ e.ready met.settled none') _ (lines_is rule a end e.course before known d _ w.lines) in
     record { answer = out.answer; state = out.state; lines = out.lines; slots = drawn_accounted _ _ e.slots; promised = out.promised }

@@ -1,3 +1,6 @@
+use Rattle.std.proofs.Common.{ap}
+use Rattle.ledger.specs.Ledger.{Ledger}
+use Rattle.settlement.specs.declared.zones.Zones.{Zones}
 use Rattle.settlement.specs.Metering.{metering}
 use Rattle.settlement.proofs.Metered.{metering_keeps}
 use Rattle.accounts.specs.Metered.{metered}
@@ -14,5 +17,5 @@ pub returns : goal.returns
 returns c =
     let a = metered c.args.self.now in
     let e = c.turn-ended.ensures in
-    let out = turn_accepted metering metering_keeps a _ c.standing.ensures _ c.in_ok-next.ensures _ e.refunded e.lost _ (λ is_open next. turned_meter a _ _ is_open _ next e.stores e.pending) in
+    let out = turn_accepted metering metering_keeps a _ c.standing.ensures _ c.in_ok-next.ensures _ e.refunded e.lost _ (λ is_open next. turned_meter a _ _ _ (ap (λ (z : Zones (Ledger (Unit {0}))). z.one.opened) e.stores) _ next e.stores e.pending) in
     record { answer = out.answer; state = out.state; slots = e.slots; promised = out.promised }

@@ -1,8 +1,6 @@
-use Rattle.hours.proofs.Summed.{finished_sums}
-use Rattle.desk.proofs.Finished.{complete}
+use Rattle.std.proofs.Common.{rules}
+use Rattle.desk.proofs.Finished.{passed_on}
 use Rattle.desk.proofs.book.OpenBook.finish.Goals as goal
 
-pub returns-in-Ok : goal.returns-in-Ok
-returns-in-Ok c s holds =
-    let f = c.in-Ok.ensures.sums in
-    (complete c.args.self s holds f.complete, finished_sums c.args.self.book.terms c.args.self.book.tally s.month s.marks s.sale s.hours _ holds.sales holds.month holds.zones holds.read f)
+pub returns : goal.returns
+returns c s holds = passed_on c.args.self s holds c.finish.result c.map_err.result _ c.finish.ensures.sums c.map_err.ensures.cases (λ u back gives. search rules)

@@ -1,0 +1,29 @@
+// Why a record has no answer.
+ghost use Rattle.std.specs.Prelude.{◌≡◌};
+ghost use Rattle.desk.specs.declared.step_fault.StepFault.TheVariants.{Refused, NoMemory};
+
+use faults::ProgramFault;
+use std::alloc::AllocError;
+
+// Why a record has no answer: it is refused, or there is no memory for the hour prices that it brings.
+#[derive(Clone, Copy, PartialEq, Eq, Debug)]
+pub enum StepFault {
+    Refused(ProgramFault),
+    NoMemory,
+}
+
+impl From<ProgramFault> for StepFault {
+    ghost from_gives = { λ fault r. r ≡ Refused fault };
+
+    fn from(fault: ProgramFault) -> StepFault {
+        StepFault::Refused(fault)
+    }
+}
+
+impl From<AllocError> for StepFault {
+    ghost from_gives = { λ _ r. r ≡ NoMemory };
+
+    fn from(_: AllocError) -> StepFault {
+        StepFault::NoMemory
+    }
+}

@@ -1,0 +1,80 @@
+// The desk that a run works at.
+ghost use Rattle.std.specs.Prelude.{◌≡◌, ◌++◌, ◌⊎◌, ◌≢◌, [], string_bytes, OnErr, OnOk};
+ghost use Rattle.records.specs.Frames.{found};
+ghost use Rattle.desk.specs.State.{State, outset};
+ghost use Rattle.desk.specs.Means.{Means, memory_of};
+ghost use Rattle.report.specs.Runs.{answer_text, comes, program_memory, read_of};
+ghost use Rattle.report.specs.Laws.{Handled, ReadsPrices};
+
+use accounts::{Billing, Metering};
+use answers::{Answer, print_answer, print_refusal};
+use desk::{Desk, StepFault};
+use faults::ProgramFault;
+use portions::Slot;
+use records::{Frame, Placed, decode};
+use settlement::Line;
+use std::alloc::{AllocError, Global};
+
+// The slots of a store: for a month's portion and those of the twelve months before it.
+pub(crate) const SLOTS: usize = 13;
+
+// The room for the lines of a settlement: so many for each of three stores.
+const LINES: usize = 3 * SLOTS;
+
+// A desk with slots for its stores, and room for lines.
+#[derive(Drop)]
+pub(crate) struct Workplace<'a> {
+    desk: Desk<'a>,
+    lines: [Line; LINES],
+    ghost memory: { memory_of desk 39 ≡ program_memory },
+}
+
+impl<'a> Workplace<'a> {
+    // A desk over the slots of the three stores of a metering account and of a billing account.
+    pub(crate) fn over(
+        first: &'a mut [Slot; SLOTS],
+        second: &'a mut [Slot; SLOTS],
+        third: &'a mut [Slot; SLOTS],
+        deposits: &'a mut [Slot; SLOTS],
+    ) -> Workplace<'a>
+        ensures { Means result.desk outset }
+    {
+        let metering = Metering::over(first, second, third);
+        let billing = Billing::over(deposits);
+        Workplace {
+            desk: Desk::new(metering, billing),
+            lines: [Line::default(); LINES],
+        }
+    }
+
+    // Takes a record, or refuses that the file ends in it: its answer, or why it has none.
+    fn step(
+        &mut self,
+        heap: Global,
+        frame: Result<Frame<'_>, ProgramFault>,
+    ) -> Result<Answer, StepFault>
+        ensures { (s : State) → Means self.old.desk s → Handled s (read_of (found frame.entry)) result self.new.lines (Means self.new.desk) }
+    {
+        let frame = frame?;
+        let said = decode(frame.kind, frame.payload)?;
+        self.desk.take(heap, &said, &mut self.lines)
+    }
+
+    // Takes a record, and prints its answer or its refusal.
+    pub(crate) fn serve(
+        &mut self,
+        heap: Global,
+        out: &mut String,
+        placed: Placed<'_>,
+    ) -> Result<(), AllocError>
+        ensures text { (s : State) → Means self.old.desk s → OnOk result (string_bytes out.new ≡ string_bytes out.old ++ answer_text placed.entry.place (comes s placed.entry).answer) }
+        ensures stands { (s : State) → Means self.old.desk s → OnOk result (Means self.new.desk (comes s placed.entry).after) }
+        ensures wanting { (s : State) → Means self.old.desk s → OnErr result ((answer_text placed.entry.place (comes s placed.entry).answer ≢ []) ⊎ ReadsPrices (read_of (found placed.entry.frame))) }
+    {
+        match self.step(heap, placed.frame) {
+            Ok(answer) => print_answer(out, &answer, &self.lines),
+            Err(StepFault::Refused(fault)) => print_refusal(out, placed.place, fault.number()),
+            Err(StepFault::NoMemory) => Err(AllocError),
+        }
+    }
+}
