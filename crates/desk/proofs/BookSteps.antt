@@ -2,7 +2,7 @@
 use Rattle.std.proofs.Common.{◌≡◌, ℕ, Some, None, Ok, Err, Option, Result, sym, refl, ap, ◌∙◌, subst, arith}
 use Rattle.faults.specs.declared.ProgramFault.{ProgramFault}
 use Rattle.faults.specs.declared.BookFault.{BookFault}
-use Rattle.faults.specs.declared.ProgramFault.TheVariants.{InBook, OutOfPlace}
+use Rattle.faults.specs.declared.ProgramFault.TheVariants.{InBook}
 use Rattle.answers.specs.Said.{Said}
 use Rattle.answers.specs.Said.Said.{nothing}
 use Rattle.desk.specs.declared.book.OpenBook.{OpenBook}
@@ -10,8 +10,8 @@ use Rattle.desk.specs.declared.steps.Desk.{Desk}
 use Rattle.desk.specs.State.{BookState, State}
 use Rattle.desk.specs.Outcome.{Outcome, by_book}
 use Rattle.desk.specs.Accounts.{own_month}
-use Rattle.desk.specs.Steps.{book_step, change, with_account, finish_book}
-use Rattle.desk.specs.Means.{BookCame, BookHolds, Came, Changes, Holds, HoldsAfter, Means, account_of, in_place}
+use Rattle.desk.specs.Steps.{book_step, change, with_account}
+use Rattle.desk.specs.Means.{BookCame, BookHolds, Came, Changes, HoldsAfter, Means, account_of, in_place}
 
 abbrev Does : Type 0
 Does = ℕ → Option BookState → Outcome (Option BookState)
@@ -20,11 +20,6 @@ Does = ℕ → Option BookState → Outcome (Option BookState)
 pub month_some : (month : Option ℕ) (n : ℕ) → Ok n ≡ in_place month → month ≡ Some n
 month_some None n e = let z : ◌≡◌ {A = ℕ} 0 1 = cc in absurd (omega arith)
 month_some (Some m) n e = cc
-
--- and one that is not
-pub month_none : (month : Option ℕ) (f : ProgramFault) → Err f ≡ in_place month → (month ≡ None) × (f ≡ OutOfPlace)
-month_none None f e = (cc, cc)
-month_none (Some m) f e = let z : ◌≡◌ {A = ℕ} 0 1 = cc in absurd (omega arith)
 
 -- with an account, the book is as what is done to it leaves it
 there : (does : Does) (month : Option ℕ) (n : ℕ) (book : Option BookState) (book' : Option OpenBook) (r : Result Said ProgramFault) → month ≡ Some n → BookCame (does n book) r book' →
@@ -38,16 +33,6 @@ module _ (s : State) (d : Desk) (means : Means d s) where
   book_came does n book' r e came =
       let c = there does (own_month s.account) n s.book book' r (sym (ap own_month means.account) ∙ month_some _ n e) came in
       (c.0, record { account = means.account; book = c.1 })
-
-  no_month : (month : Option ℕ) (r : Result Said ProgramFault) → month ≡ None → r ≡ Err OutOfPlace → Came (finish_book month s.account s.book) r (Means d)
-  no_month month r e er = subst (λ (o : Option ℕ). Came (finish_book o s.account s.book) r (Means d)) (sym e) (sym er, record { account = means.account; book = means.book })
-
-  -- no book is finished where no account is open
-  pub none_finished : (f : ProgramFault) (r : Result Said ProgramFault) → Err f ≡ in_place (own_month (account_of d.accounts)) → r ≡ Err f →
-      Came (finish_book (own_month s.account) s.account s.book) r (Means d)
-  none_finished f r err er =
-      let n = month_none _ f err in
-      no_month (own_month s.account) r (sym (ap own_month means.account) ∙ n.0) (er ∙ ap Err n.1)
 
 -- what a call on a book says
 abbrev pub said_of : Result (Unit {0}) BookFault → Result Said ProgramFault
@@ -67,8 +52,3 @@ pub change_came : (Done : OpenBook → Result (Unit {0}) BookFault → OpenBook 
 change_came Done refusal becomes month None b b' r out changes done e holds = absurd holds
 change_came Done refusal becomes month (Some s) b b' r out changes done e holds =
     subst (λ (o : Result Said ProgramFault). BookCame (by_book (refusal s) (Some s) (Some (becomes s))) o (Some b')) e (by_book_came (refusal s) s (becomes s) b' r (changes b b' r s done holds))
-
--- from a call at equal books
-pub at_books : (refusal : Option BookFault) (old new : BookState) (r : Result (Unit {0}) BookFault) (shown left b b' : OpenBook) → shown ≡ b → left ≡ b' →
-    (Holds shown old → HoldsAfter refusal old new r left) → Holds b old → HoldsAfter refusal old new r b'
-at_books refusal old new r shown left b b' e e' call holds = subst (HoldsAfter refusal old new r) e' (call (subst (λ (x : OpenBook). Holds x old) (sym e) holds))

@@ -1,5 +1,5 @@
 -- Calls on an account, accepted or refused.
-use Rattle.std.proofs.Common.{◌≡◌, ℕ, min, Bool, List, length, take, drop, Some, None, Ok, Err, Option, Result, sym, refl, ap, ◌∙◌, subst, arith}
+use Rattle.std.proofs.Common.{◌≡◌, ℕ, List, length, take, drop, Some, None, Ok, Err, Option, Result, sym, refl, ap, ◌∙◌, subst, arith}
 use Rattle.std.proofs.lemmas.Result.{err_from_is_err_and}
 use Rattle.std.specs.Result.{MatchResult, IsErrAnd}
 use lib.Seq.{take-append_seam, drop-append_seam}
@@ -14,19 +14,14 @@ use Rattle.answers.specs.Said.{Said}
 use Rattle.answers.specs.Said.Said.{nothing, settled, paid}
 use Rattle.settlement.specs.declared.answers.Settlement.{Settlement}
 use Rattle.settlement.specs.declared.answers.Payment.{Payment}
-use Rattle.portions.specs.declared.Slot.{Slot}
-use Rattle.store.specs.Held.{room}
 use Rattle.settlement.specs.declared.answers.Line.{Line}
-use Rattle.settlement.specs.declared.zones.Zones.{Zones}
 use Rattle.settlement.specs.Lines.{written}
 use Rattle.settlement.specs.Metering.{MeterAccount}
 use Rattle.settlement.specs.Billing.{BillAccount}
-use Rattle.accounts.specs.Means.{EnergyStore, fewest}
-use Rattle.accounts.specs.Slots.{EachSame, EachAccounted}
 use Rattle.desk.specs.declared.account_calls.Sort.{Sort}
 use Rattle.desk.specs.declared.account_calls.Sort.TheVariants.{Metering, Billing}
 use Rattle.desk.specs.State.{Account}
-use Rattle.desk.specs.State.Account.{none, metered, billed}
+use Rattle.desk.specs.State.Account.{metered, billed}
 use Rattle.desk.specs.Outcome.{Outcome, by_account}
 use Rattle.desk.specs.Means.{AccountCame, account_in, nothing_said}
 
@@ -67,25 +62,6 @@ on_metering does w m m' b b' r e came = subst (λ (v : Option Sort). AccountCame
 pub on_billing : (does : Account → Outcome Account) (w : Option Sort) (m m' : MeterAccount) (b b' : BillAccount) (r : Result Said ProgramFault) → w ≡ Some Billing →
     AccountCame (does (billed b)) r (billed b') → AccountCame (does (account_in w m b)) r (account_in w m' b')
 on_billing does w m m' b b' r e came = subst (λ (v : Option Sort). AccountCame (does (account_in v m b)) r (account_in v m' b')) (sym e) came
-
--- a refused opening, where no account is open
-pub on_none : (does : Account → Outcome Account) (w : Option Sort) (m m' : MeterAccount) (b b' : BillAccount) (r : Result Said ProgramFault) → w ≡ None →
-    AccountCame (does none) r none → AccountCame (does (account_in w m b)) r (account_in w m' b')
-on_none does w m m' b b' r e came = subst (λ (v : Option Sort). AccountCame (does (account_in v m b)) r (account_in v m' b')) (sym e) came
-
--- a call on the stores leaves as many slots
-pub same_fewest : (accepted : Bool) (s s' : Zones EnergyStore) → EachAccounted accepted s s' → fewest s' ≡ fewest s
-same_fewest accepted s s' a =
-    ap (λ n. min (min n (room s'.two)) (room s'.three)) a.0.same_room
-    ∙ ap (λ n. min (min (room s.one) n) (room s'.three)) a.1.same_room
-    ∙ ap (λ n. min (min (room s.one) (room s.two)) n) a.2.same_room
-
--- an opening does too
-pub opened_fewest : (s s' : Zones EnergyStore) → EachSame s s' → fewest s' ≡ fewest s
-opened_fewest s s' a =
-    ap (λ (l : List Slot). min (min (length l) (room s'.two)) (room s'.three)) a.0.same
-    ∙ ap (λ (l : List Slot). min (min (room s.one) (length l)) (room s'.three)) a.1.same
-    ∙ ap (λ (l : List Slot). min (min (room s.one) (room s.two)) (length l)) a.2.same
 
 -- the lines of a settlement, and those after them
 pub first_lines : (n : ℕ) (new old lines : List Line) → n ≡ length new → lines ≡ written new old → take n lines ≡ new

@@ -3,4 +3,3 @@ pub mod Prices
 pub mod Finished
 pub mod Calls
 pub mod BookSteps
-pub mod Tellings

@@ -145,16 +145,6 @@ pub record Means (d : Desk) (s : State) : Type 0 where
 abbrev pub Came : Outcome State → Result Said ProgramFault → (State → Type 0) → Type 0
 Came o r Stands = (o.answer ≡ r) × Stands o.after
 
--- what a record is answered that is only accepted or refused
-abbrev pub told_of : Result (Unit {0}) ProgramFault → Result Answer StepFault
-told_of (Ok _) = Ok Nothing
-told_of (Err fault) = Err (Refused fault)
-
--- and one that has an answer of its own
-abbrev pub answered_of : Result Answer ProgramFault → Result Answer StepFault
-answered_of (Ok answer) = Ok answer
-answered_of (Err fault) = Err (Refused fault)
-
 -- a record that brings a list of prices
 abbrev pub BringsPrices : Rec → Type 0
 BringsPrices (opens_metering month power period) = ⊥
