@@ -1,6 +1,6 @@
 -- The record that opens a book, taken apart and put together.
-use Rattle.std.proofs.Common.{◌≡◌, ℕ, ◌+◌, Bool, true, false, cond, eqb, List, [], ◌∷◌, ◌++◌, length, take, drop, Some, None, Ok, sym, refl, ap, ◌∙◌, append_assoc, arith, length-append}
-use Rattle.std.proofs.lemmas.List.{drop_at, drop-drop, get_or-drop, take_all, take_at}
+use Rattle.std.proofs.Common.{◌≡◌, ℕ, ◌+◌, Bool, true, false, cond, eqb, List, [], ◌∷◌, ◌++◌, length, take, drop, Some, None, Ok, sym, refl, ap, ◌∙◌, arith, length-append}
+use Rattle.std.proofs.lemmas.List.{drop_at, drop-drop, get_or-drop, take_at}
 use Rattle.std.proofs.lemmas.Bool.{eqb-true}
 use Rattle.records.specs.Records.{decoded_book, opens_book, sale_at, sale_in}
 use Rattle.records.specs.Says.{BookBytes, Says}
@@ -32,17 +32,6 @@ book_decoded p after prices working weekend sale ew ea la ee ep lp s =
     let weekend' : weekend ≡ take 24 (drop 24 p) = ee ∙ ap (take 24) ea in
     let sale' : sale ≡ sale_at p 48 = s.is ∙ ap (λ t. sale_at t 0) end ∙ sale_after p in
     rw (n, ew, weekend', sale')
-
--- parts that are written one after the other stand one after the other
-pub written_in_turn : (head working weekend sale one two three all : List ℕ) → length head ≡ 4 → length working ≡ 24 → length weekend ≡ 24 → length sale ≡ 12 → length all ≡ 64 → take (0 + length head) one ≡ head → take (4 + length working) two ≡ take 4 one ++ working → take (28 + length weekend) three ≡ take 28 two ++ weekend → take (52 + length sale) all ≡ take 52 three ++ sale → all ≡ head ++ (working ++ (weekend ++ sale))
-written_in_turn head working weekend sale one two three all lh lw le ls la e1 e2 e3 e4 =
-    let one' : take 4 one ≡ head = rw lh at e1 in
-    let two' : take 28 two ≡ take 4 one ++ working = rw lw at e2 in
-    let three' : take 52 three ≡ take 28 two ++ weekend = rw le at e3 in
-    let all' : take 64 all ≡ take 52 three ++ sale = rw ls at e4 in
-    let whole : take 64 all ≡ all = take_all 64 all (omega arith) in
-    let joined : all ≡ ((head ++ working) ++ weekend) ++ sale = cc in
-    joined ∙ simp append_assoc
 
 -- such bytes say the book that they were made from
 pub book_says : (marks : List (List ℕ)) (sale working weekend prices bytes : List ℕ) → BookBytes working weekend prices bytes → marks ≡ working ∷ weekend ∷ [] → sale ≡ sale_at prices 0 → Says bytes (opens_book marks sale)

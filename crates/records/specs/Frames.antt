@@ -1,11 +1,11 @@
 -- Where one record ends and the next begins.
-use Rattle.std.specs.Prelude.{◌≡◌, ℕ, ◌+◌, ◌^◌, ◌<◌, Bool, cond, List, [], length, take, drop, Some, None, Ok, Err, Option, Result, nat_le}
+use Rattle.std.specs.Prelude.{◌≡◌, ℕ, ◌+◌, ◌<◌, Bool, cond, List, [], length, take, drop, Some, None, Ok, Err, Option, Result, nat_le}
 use Rattle.std.specs.Option.{ok_or}
 use Rattle.faults.specs.declared.ProgramFault.{ProgramFault}
 use Rattle.faults.specs.declared.ProgramFault.TheVariants.{FileEnds}
 use Rattle.records.specs.Bytes.{two_at}
 use Rattle.records.specs.declared.frames.Frame.{Frame}
-use Rattle.records.specs.declared.frames.Frames.{Frames}
+use Rattle.records.specs.declared.left.Frames.{Frames}
 use Rattle.records.specs.declared.frames.Placed.{Placed}
 
 -- a record's kind and payload, and the bytes after it
@@ -51,10 +51,6 @@ found (Err fault) = Err fault
 -- the bytes behind the record at the front; none where the bytes end in it
 abbrev pub behind : List ℕ → List ℕ
 behind bs = cond (whole bs) (drop (4 + head_length bs) bs) []
-
--- the place of the file's end can be counted
-abbrev pub Counted : Frames → Type 0
-Counted s = s.place + length s.rest.now < 2 ^ 64
 
 -- the record at the front was given with its place, and those behind it are left
 pub record Gives (s : Frames) (p : Placed) (t : Frames) : Type 0 where

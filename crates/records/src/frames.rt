@@ -1,8 +1,9 @@
 // Where one record ends and the next begins.
 ghost use Rattle.std.specs.Prelude.{◌≡◌, length};
 ghost use Rattle.std.specs.Iterator.{at_most};
-ghost use Rattle.records.specs.Frames.{frame_model, framed, Counted, NextGives};
+ghost use Rattle.records.specs.Frames.{frame_model, framed, NextGives};
 
+use crate::left::Frames;
 use faults::ProgramFault;
 
 // A record's kind and payload, and the bytes after it.
@@ -39,19 +40,11 @@ pub struct Placed<'a> {
     pub frame: Result<Frame<'a>, ProgramFault>,
 }
 
-// The records of a file that are left, and the place of the first.
-#[derive(Clone, Copy)]
-pub struct Frames<'a> {
-    place: usize,
-    rest: &'a [u8],
-}
-
 impl<'a> Frames<'a> {
     // All records of a file.
     pub fn new(input: &'a [u8]) -> Frames<'a>
         ensures place { result.place ≡ 0 }
         ensures rest { result.rest.now ≡ input.now }
-        ensures counted { Counted result }
     {
         Frames {
             place: 0,
@@ -62,8 +55,6 @@ impl<'a> Frames<'a> {
 
 impl<'a> Iterator for Frames<'a> {
     type Item = Placed<'a>;
-
-    ghost can_next = { Counted };
 
     ghost next_gives = { NextGives };
 
@@ -76,16 +67,20 @@ impl<'a> Iterator for Frames<'a> {
         let place = self.place;
         match next_frame(self.rest) {
             Some(frame) => {
-                self.place += 4 + frame.payload.len();
-                self.rest = frame.rest;
+                *self = Frames {
+                    place: place + 4 + frame.payload.len(),
+                    rest: frame.rest,
+                };
                 Some(Placed {
                     place,
                     frame: Ok(frame),
                 })
             }
             None => {
-                self.place += self.rest.len();
-                self.rest = &[];
+                *self = Frames {
+                    place: place + self.rest.len(),
+                    rest: &[],
+                };
                 Some(Placed {
                     place,
                     frame: Err(ProgramFault::FileEnds),

@@ -20,6 +20,7 @@ mod bare;
 mod decoding;
 mod encoding;
 mod frames;
+mod left;
 mod prices;
 
 pub use bare::Bare;
@@ -27,5 +28,6 @@ pub use decoding::{Record, decode};
 pub use encoding::{
     encode_bare, encode_billing, encode_book, encode_metering, encode_month_price, encode_reading,
 };
-pub use frames::{Frame, Frames, Placed, next_frame};
+pub use frames::{Frame, Placed, next_frame};
+pub use left::Frames;
 pub use prices::{Unwritten, encode_hour_prices, price_list};

@@ -7,7 +7,7 @@ use Rattle.std.specs.declared.alloc.AllocError.{AllocError}
 use Rattle.faults.specs.declared.ProgramFault.{ProgramFault}
 use Rattle.faults.specs.declared.ProgramFault.TheVariants.{FileEnds}
 use Rattle.records.specs.Frames.{Framed, framed, first_frame, head_kind, head_length, whole, found, behind, Gives}
-use Rattle.records.specs.declared.frames.Frames.{Frames}
+use Rattle.records.specs.declared.left.Frames.{Frames}
 use Rattle.records.specs.declared.frames.Placed.{Placed}
 use Rattle.records.specs.Records.{decoded}
 use Rattle.records.proofs.Heads.{framed_parts, framed_joined}

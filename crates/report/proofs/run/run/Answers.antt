@@ -1,5 +1,5 @@
 use Rattle.std.proofs.Common.{ap, ◌∙◌}
-use Rattle.records.specs.declared.frames.Frames.{Frames}
+use Rattle.records.specs.declared.left.Frames.{Frames}
 use Rattle.report.proofs.Sofar.{start, goes_on, stops_for, finished, at_error}
 use Rattle.report.proofs.run.run.Goals as goal
 
