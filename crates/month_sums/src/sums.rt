@@ -64,12 +64,7 @@ pub(crate) fn sums_of(input: Input) -> Result<MonthSums, Complaint>
     let mut source = source_of(terms.month, terms.price, hours.prices)?;
     let sale = terms.sale;
     let tariff = Tariff { marks, sale };
-    match sum_month(
-        terms.month,
-        tariff,
-        hours.readings.as_slice(),
-        &mut source,
-    ) {
+    match sum_month(terms.month, tariff, hours.readings.as_slice(), &mut source) {
         Ok(sums) => Ok(sums),
         Err(refused) => Err(complaint_of(refused, &marks)),
     }
