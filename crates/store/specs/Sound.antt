@@ -24,8 +24,8 @@ abbrev pub span : ℕ → Bool → ℕ
 span life opened = cond opened (life + 1) 0
 
 -- there is a slot for each portion that can be open, and the portions are of the last `span` months, rising
-abbrev pub Placed : ℕ → Bool → Rows → ℕ → Type 0
-Placed life opened rows month =
+abbrev pub Placed : ℕ → Rows → Bool → ℕ → Type 0
+Placed life rows opened month =
     (span life opened ≤ length rows.slots.now) ×
     (rises (month + 1 - span life opened) (month + 1) (kept rows) ≡ true)
 
@@ -37,4 +37,4 @@ Counted rows month totals =
 
 -- a store is sound
 abbrev pub Sound : ℕ → Rows → Bool → ℕ → Totals → Type 0
-Sound life rows opened month totals = Placed life opened rows month × Counted rows month totals
+Sound life rows opened month totals = Placed life rows opened month × Counted rows month totals
