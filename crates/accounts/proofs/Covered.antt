@@ -1,29 +1,17 @@
 -- What the two passes leave as it was, and the lines of three stores.
-use Rattle.std.proofs.Common.{◌≡◌, ℕ, zero, suc, ◌+◌, ◌<◌, ◌≤◌, List, [], ◌∷◌, get_or, ◌++◌, length, take, drop, Some, sym, ap, ◌∙◌, subst, append_assoc, arith, length-append}
-use Rattle.std.proofs.lemmas.List.{length-map, take_at, drop_at, drop-drop}
-use Rattle.portions.specs.Portions.{Portion}
+use Rattle.std.proofs.Common.{◌≡◌, ℕ, zero, suc, ◌+◌, ◌<◌, ◌≤◌, List, [], ◌∷◌, get_or, ◌++◌, length, take, drop, Some, sym, ap, ◌∙◌, append_assoc, arith, length-append}
+use Rattle.std.proofs.lemmas.List.{take_at, drop_at, drop-drop}
 use Rattle.ledger.specs.Rules.{Rule}
-use Rattle.ledger.specs.Ledger.{Ledger, lefts}
+use Rattle.ledger.specs.Ledger.{Ledger}
 use Rattle.settlement.specs.declared.answers.Line.{Line}
 use Rattle.hours.specs.declared.zones.Zone.{Zone}
 use Rattle.hours.specs.declared.zones.Zone.TheVariants.{First, Second, Third}
 use Rattle.settlement.specs.declared.zones.Zones.{Zones}
-use Rattle.settlement.specs.Zones.{of, each}
+use Rattle.settlement.specs.Zones.{of}
 use Rattle.settlement.specs.Lines.{lines_of, written}
-use Rattle.settlement.specs.Metering.{MeterAccount, Course, cover, covers, own_stores, other_stores, outset, settled_course, all_lines}
-use Rattle.settlement.proofs.Cover.{covers_length, covers_month}
+use Rattle.settlement.specs.Metering.{Course, cover, covers, all_lines}
 use Rattle.settlement.proofs.Lines.{length_lines_of}
 use Rattle.accounts.specs.Bounds.{Known}
-
-module _ (rule : Rule) (a : MeterAccount) (end : Course) (is : end ≡ settled_course rule a) where
-  known_in : (z : Zone) → length (of z end.stores).portions ≤ length (lefts (of z a.stores))
-  known_in z =
-      let same = ap (λ (x : Course). length (of z x.stores).portions) is ∙ covers_length rule a.coefficient (own_stores ++ other_stores) (outset a) z in
-      omega (arith, same, length-map (of z a.stores).portions (λ (p : Portion (Unit {0})). p.left))
-
-  -- each portion was there before
-  pub known_all : (before : Zones (List ℕ)) → before ≡ each lefts a.stores → Known before end.stores
-  known_all before e = subst (λ b. Known b end.stores) (sym e) (known_in First, known_in Second, known_in Third)
 
 -- covering the pairs from a place on is covering the one there, and then those after it
 covers_suc : (rule : Rule) (c : ℕ) (pairs : List (Zone × Zone)) (i : ℕ) (d : Zone × Zone) (was next : Course) → i < length pairs → next ≡ cover rule c (get_or pairs i d).0 (get_or pairs i d).1 was →

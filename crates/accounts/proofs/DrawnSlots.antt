@@ -1,12 +1,11 @@
 -- What draws one after the other do to the slots.
-use Rattle.std.proofs.Common.{◌≡◌, ℕ, max, true, drop, refl, ◌∙◌, subst, arith}
+use Rattle.std.proofs.Common.{◌≡◌, ℕ, max, drop, ◌∙◌, subst, arith}
 use Rattle.portions.specs.declared.Kind.{Ghosts}
 use Rattle.store.specs.declared.Store.{Store}
 use Rattle.store.specs.Held.{lent, in_use}
 use Rattle.settlement.specs.declared.zones.Zones.{Zones}
 use Rattle.accounts.specs.Means.{EnergyStore}
-use Rattle.accounts.specs.Slots.{Drawn, EachDrawn, EachAccounted}
-use Rattle.accounts.proofs.Outcomes.{unchanged}
+use Rattle.accounts.specs.Slots.{Drawn, EachDrawn}
 
 then_drawn : {K T : Type 0} {k : Ghosts K T} (s t u : Store K T k) → Drawn s t → Drawn t u → Drawn s u
 then_drawn s t u d e =
@@ -24,14 +23,6 @@ then_drawn s t u d e =
       same_use = e.same_use ∙ d.same_use;
     }
 
--- nothing drawn changes nothing
-pub none_drawn : (s : Zones EnergyStore) → EachDrawn s s
-none_drawn s = (record { accounted = unchanged true s.one; same_use = refl }, record { accounted = unchanged true s.two; same_use = refl }, record { accounted = unchanged true s.three; same_use = refl })
-
 module _ (s t u : Zones EnergyStore) where
   pub then_each : EachDrawn s t → EachDrawn t u → EachDrawn s u
   then_each d e = (then_drawn s.one t.one u.one d.0 e.0, then_drawn s.two t.two u.two d.1 e.1, then_drawn s.three t.three u.three d.2 e.2)
-
--- draws are accounted for
-pub drawn_accounted : (s t : Zones EnergyStore) → EachDrawn s t → EachAccounted true s t
-drawn_accounted s t d = (d.0.accounted, d.1.accounted, d.2.accounted)

@@ -1,11 +1,11 @@
 -- What holds of every store, for those who use one.
-use Rattle.std.proofs.Common.{◌≡◌, ℕ, ◌+◌, ◌-◌, ◌≤◌, Bool, true, false, cond, List, [], ◌∷◌, length, filter, sym, refl, ap, ◌∙◌, subst, arith, eqb-true}
+use Rattle.std.proofs.Common.{◌≡◌, ℕ, ◌+◌, ◌-◌, ◌≤◌, Bool, true, false, cond, List, [], ◌∷◌, length, filter, sym, refl, ◌∙◌, subst, arith}
 use Rattle.std.proofs.lemmas.List.{length-map, length-take-le}
 use Rattle.portions.specs.Portions.{Portion}
 use Rattle.portions.specs.Slots.{reads, plain}
 use Rattle.portions.specs.declared.Kind.{Ghosts}
 use Rattle.ledger.specs.Ledger.{Ledger, has}
-use Rattle.ledger.specs.Steps.{stays_in, refunds, losses, turning}
+use Rattle.ledger.specs.Steps.{stays_in, turning}
 use Rattle.store.specs.declared.Store.{Store}
 use Rattle.store.specs.Held.{held, lent, in_use}
 use Rattle.store.specs.Reading.{kind_of, ledger_of}

@@ -1,10 +1,8 @@
+mod Refused
 mod Facts
 mod Allowed
 mod Written
-mod Outcomes
-mod Bills
 mod Paid
 mod DrawnSlots
-mod Pending
 mod Meters
 mod Covered

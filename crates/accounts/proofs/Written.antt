@@ -1,5 +1,5 @@
 -- Lemmas on the lines of a settlement, one by one.
-use Rattle.std.proofs.Common.{◌≡◌, ℕ, zero, suc, ◌+◌, ◌<◌, ◌≤◌, IsSome, List, [], ◌∷◌, length, get_or, ◌++◌, take, drop, slice_set, Some, None, Option, refl, ap, ◌∙◌, arith}
+use Rattle.std.proofs.Common.{◌≡◌, ℕ, zero, suc, ◌+◌, ◌<◌, ◌≤◌, List, [], ◌∷◌, length, get_or, ◌++◌, take, drop, slice_set, Some, None, Option, ap, ◌∙◌, arith}
 use lib.Seq.{paste}
 use Rattle.std.specs.List.{slice_get}
 use Rattle.std.proofs.lemmas.List.{length-take-le, drop_all, append-nil}
@@ -13,13 +13,6 @@ use Rattle.settlement.specs.Lines.{line_of, lines_of}
 abbrev some_of : {X : Type 0} → X → Option X → X
 some_of d (Some x) = x
 some_of d None = d
-
--- there is a portion at each place before the end
-pub portion_there : {S X : Type 0} (f : S → X) (xs : List X) (i : ℕ) (o : Option S) → i < length xs → told f o ≡ slice_get xs i → IsSome o
-portion_there f [] i o le e = absurd (omega arith)
-portion_there f (x ∷ xs) zero None le e = let b : ◌≡◌ {A = ℕ} 0 1 = cc in absurd (omega arith)
-portion_there f (x ∷ xs) zero (Some s) le e = refl
-portion_there f (x ∷ xs) (suc i) o le e = portion_there f xs i o (omega arith) e
 
 -- the line at a place is that of the portion there
 pub line_there : {T : Type 0} (zone : Option Zone) (before : List ℕ) (ps : List (Portion T)) (i : ℕ) (z r : Line) → length ps ≤ length before →

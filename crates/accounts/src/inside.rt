@@ -36,7 +36,7 @@ pub(crate) fn enough_slots(slots: usize) -> Result<(), StoreFault>
 pub(crate) fn month_in_range(month: u16) -> Result<(), AccountFault>
     ensures { result ≡ answers (asks (nat_le 47 month) MonthOutOfRange (asks (nat_le month 1199) MonthOutOfRange None)) tt }
 {
-    if month < FIRST_MONTH || month > LAST_MONTH {
+    if !(FIRST_MONTH..=LAST_MONTH).contains(&month) {
         return Err(AccountFault::MonthOutOfRange);
     }
     Ok(())
@@ -50,7 +50,7 @@ pub(crate) fn open_store<K: Kind>(store: &mut Store<K>, month: u16)
     ensures state { ledger_of K.Kind store.new ≡ opening month }
     ensures slots { SameSlots store.old store.new }
 {
-    let _ = store.open(month);
+    store.open(month).unwrap();
 }
 
 // Enters an amount that is not too large, in a month that has no portion yet.
@@ -61,7 +61,7 @@ pub(crate) fn enter_store<K: Kind>(store: &mut Store<K>, amount: u32, terms: K::
     ensures state { ledger_of K.Kind store.new ≡ entering amount terms (ledger_of K.Kind store.old) }
     ensures slots { Accounted true store.old store.new }
 {
-    let _ = store.enter(amount, terms);
+    store.enter(amount, terms).unwrap();
 }
 
 // Draws an amount that is not too large: the sum taken.

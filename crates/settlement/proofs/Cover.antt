@@ -119,11 +119,3 @@ module _ (rule : Rule) (c : ℕ) where
       let takes = takings rule (wanted c (of pair.0 course.rests)) store in
       let same : Ledger (Unit {0}) → Ledger (Unit {0}) → Type 0 = λ x y. length x.portions ≡ length y.portions in
       covers_length pairs (cover rule c pair.0 pair.1 course) z ∙ put_relates same (λ x. refl) pair.1 (drawing takes store) course.stores (length_taking takes store.portions) z
-
-  pub covers_month : (pairs : List (Zone × Zone)) (course : Course) (z : Zone) → (of z (covers rule c pairs course).stores).month ≡ (of z course.stores).month
-  covers_month [] course z = refl
-  covers_month (pair ∷ pairs) course z =
-      let store = of pair.1 course.stores in
-      let takes = takings rule (wanted c (of pair.0 course.rests)) store in
-      let same : Ledger (Unit {0}) → Ledger (Unit {0}) → Type 0 = λ x y. x.month ≡ y.month in
-      covers_month pairs (cover rule c pair.0 pair.1 course) z ∙ put_relates same (λ x. refl) pair.1 (drawing takes store) course.stores refl z

@@ -71,6 +71,7 @@ impl<'a> Billing<'a> {
         ensures slots { Accounted (is_ok result) self.old.store self.new.store }
         ensures promised { Keeps billing (billed self.old) (enter_event sums result) (billed self.new) }
     {
+        // A match, since a refusal hands the sums back and an accepted enter strikes them: `map_err` would take them for both.
         match self.standing().may_enter(sums.month()) {
             Err(fault) => Err(Returned { fault, sums }),
             Ok(next) => {

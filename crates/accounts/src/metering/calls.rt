@@ -83,6 +83,7 @@ impl<'a> Metering<'a> {
         ensures slots { EachAccounted (is_ok result) self.old.meters.stores self.new.meters.stores }
         ensures promised { Keeps metering (metered self.old) (enter_event sums result) (metered self.new) }
     {
+        // A match, since a refusal hands the sums back and an accepted enter strikes them: `map_err` would take them for both.
         match self.standing().may_enter(sums.month()) {
             Err(fault) => Err(Returned { fault, sums }),
             Ok(next) => {

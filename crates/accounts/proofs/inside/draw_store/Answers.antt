@@ -1,4 +1,4 @@
-use Rattle.std.proofs.Common.{length, Ok, true, is_ok, ap, ◌∙◌, subst, arith}
+use Rattle.std.proofs.Common.{length, is_ok, ap, ◌∙◌, subst, arith}
 use Rattle.ledger.specs.Ledger.{Ledger}
 use Rattle.ledger.specs.Calls.{becomes}
 use Rattle.ledger.specs.Steps.{takings, drawing}

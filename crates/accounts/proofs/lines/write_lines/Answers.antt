@@ -1,16 +1,12 @@
-use Rattle.std.proofs.Common.{◌≡◌, ◌<◌, ◌≤◌, length, take, Some, subst, sym, ◌∙◌, arith}
+use Rattle.std.proofs.Common.{◌≡◌, take, Some, subst, arith}
 use Rattle.std.specs.List.{slice_get}
 use Rattle.std.proofs.lemmas.List.{length-take-le}
-use Rattle.std.proofs.lemmas.List.Edits.{paste_none}
 use Rattle.portions.specs.Listed.{listed}
 use Rattle.store.specs.Reading.{ledger_of, told}
 use Rattle.settlement.specs.Lines.{line_of, lines_of}
 use Rattle.settlement.proofs.Lines.{length_lines_of}
 use Rattle.accounts.proofs.Written.{line_there, all_written, next_written}
 use Rattle.accounts.proofs.lines.write_lines.Goals as goal
-
-pub loop-place-init : goal.loop-place-init
-loop-place-init g c = paste_none (take c.count-count.result c.args.lines.now) 0 (lines_of c.args.zone (listed c.args.before.now) (ledger_of g.K.Kind c.args.store.now).portions)
 
 pub loop-place-preserved : goal.loop-place-preserved
 loop-place-preserved g c =

@@ -1,21 +1,14 @@
-use Rattle.std.proofs.Common.{refl}
+use Rattle.std.proofs.Common.{rules, Ok}
 use Rattle.settlement.specs.Billing.{billing}
 use Rattle.settlement.proofs.Billed.{billing_keeps}
+use Rattle.settlement.proofs.Keeps.{keeps_open}
 use Rattle.store.specs.Held.{room}
 use Rattle.accounts.specs.Billed.{billed, bill_opening}
-use Rattle.accounts.proofs.Outcomes.{open_refused, open_accepted}
-use Rattle.accounts.proofs.Bills.{opened_bill}
 use Rattle.accounts.proofs.billing.Billing.open.Goals as goal
 
-pub returns-in_err-may_open : goal.returns-in_err-may_open
-returns-in_err-may_open c =
-    let o = bill_opening (room c.args.self.now.store) c.args.month c.args.percentage in
-    let out = open_refused billing billing_keeps (billed c.args.self.now) o tt _ c.in_err-may_open.ensures _ c.from_residual.ensures.1 in
-    record { answer = out.answer; state = out.state; slots = record { same = refl; lender = refl }; promised = out.promised }
+pub returns-in_err-may_open-clause-promised : goal.returns-in_err-may_open-clause-promised
+returns-in_err-may_open-clause-promised c =
+    keeps_open billing billing_keeps (billed c.args.self.now) _ (bill_opening (room c.args.self.now.store) c.args.month c.args.percentage) c.from_residual.result (search rules) (search rules)
 
-pub returns : goal.returns
-returns c =
-    let o = bill_opening (room c.args.self.now.store) c.args.month c.args.percentage in
-    let e = c.open_store.ensures in
-    let out = open_accepted billing billing_keeps (billed c.args.self.now) o tt tt c.in_ok-may_open.ensures _ (λ _. opened_bill o _ e.state) in
-    record { answer = out.answer; state = out.state; slots = e.slots; promised = out.promised }
+pub returns-clause-promised : goal.returns-clause-promised
+returns-clause-promised c = keeps_open billing billing_keeps (billed c.args.self.now) _ (bill_opening (room c.args.self.now.store) c.args.month c.args.percentage) (Ok tt) (search rules) (search rules)

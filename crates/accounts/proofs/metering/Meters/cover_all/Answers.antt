@@ -1,13 +1,10 @@
-use Rattle.std.proofs.Common.{refl, ◌++◌, ◌∙◌}
+use Rattle.std.proofs.Common.{◌++◌, ◌∙◌}
 use Rattle.settlement.specs.Metering.{own_stores, other_stores}
 use Rattle.accounts.specs.Coefficients.{tenths}
 use Rattle.accounts.specs.Metered.{course}
-use Rattle.accounts.proofs.DrawnSlots.{none_drawn, then_each}
+use Rattle.accounts.proofs.DrawnSlots.{then_each}
 use Rattle.accounts.proofs.Covered.{covers_next}
 use Rattle.accounts.proofs.metering.Meters.cover_all.Goals as goal
-
-pub loop-zone-init : goal.loop-zone-init
-loop-zone-init g c = (refl, none_drawn c.args.self.now.stores, c.requires.ready)
 
 pub loop-zone-preserved : goal.loop-zone-preserved
 loop-zone-preserved g c =
