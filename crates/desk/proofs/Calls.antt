@@ -1,5 +1,5 @@
 -- Calls on an account, accepted or refused.
-use Rattle.std.proofs.Common.{◌≡◌, ℕ, List, length, take, drop, Some, None, Ok, Err, Option, Result, sym, refl, ap, ◌∙◌, subst, arith}
+use Rattle.std.proofs.Common.{◌≡◌, ℕ, min, Bool, List, length, take, drop, Some, None, Ok, Err, Option, Result, sym, refl, ap, ◌∙◌, subst, arith}
 use Rattle.std.proofs.lemmas.Result.{err_from_is_err_and}
 use Rattle.std.specs.Result.{MatchResult, IsErrAnd}
 use lib.Seq.{take-append_seam, drop-append_seam}
@@ -16,14 +16,21 @@ use Rattle.settlement.specs.declared.answers.Settlement.{Settlement}
 use Rattle.settlement.specs.declared.answers.Payment.{Payment}
 use Rattle.settlement.specs.declared.answers.Line.{Line}
 use Rattle.settlement.specs.Lines.{written}
-use Rattle.settlement.specs.Metering.{MeterAccount}
-use Rattle.settlement.specs.Billing.{BillAccount}
 use Rattle.desk.specs.declared.account_calls.Sort.{Sort}
 use Rattle.desk.specs.declared.account_calls.Sort.TheVariants.{Metering, Billing}
+use Rattle.accounts.specs.declared.metering.Metering.{Metering as MeteringOf}
+use Rattle.accounts.specs.declared.billing.Billing.{Billing as BillingOf}
+use Rattle.accounts.specs.Metered as meters
+use Rattle.accounts.specs.Billed as bills
+use Rattle.desk.specs.declared.account_calls.Accounts.{Accounts}
+use Rattle.store.specs.Held.{room}
+use Rattle.settlement.specs.declared.zones.Zones.{Zones}
+use Rattle.accounts.specs.Means.{EnergyStore, fewest}
+use Rattle.accounts.specs.Slots.{EachAccounted}
 use Rattle.desk.specs.State.{Account}
 use Rattle.desk.specs.State.Account.{metered, billed}
 use Rattle.desk.specs.Outcome.{Outcome, by_account}
-use Rattle.desk.specs.Means.{AccountCame, account_in, nothing_said}
+use Rattle.desk.specs.Means.{AccountCame, Called, account_in, nothing_said}
 
 module _ {V : Type 0} where
   -- an accepted call has no refusal
@@ -53,15 +60,28 @@ module _ {X : Type 0} (o : Option AccountFault) (old : X) (said : Said) (new : X
   pub accepted_came : o ≡ None → r ≡ Ok said → x ≡ new → ((by_account o old said new).answer ≡ r) × ((by_account o old said new).after ≡ x)
   accepted_came e er ex = (ap (λ p. (by_account p old said new).answer) e ∙ sym er, ap (λ p. (by_account p old said new).after) e ∙ sym ex)
 
--- a call that only a metering account had, said of the account that is open
-pub on_metering : (does : Account → Outcome Account) (w : Option Sort) (m m' : MeterAccount) (b b' : BillAccount) (r : Result Said ProgramFault) → w ≡ Some Metering →
-    AccountCame (does (metered m)) r (metered m') → AccountCame (does (account_in w m b)) r (account_in w m' b')
-on_metering does w m m' b b' r e came = subst (λ (v : Option Sort). AccountCame (does (account_in v m b)) r (account_in v m' b')) (sym e) came
+-- a call on the stores leaves as many slots
+pub same_fewest : (accepted : Bool) (s s' : Zones EnergyStore) → EachAccounted accepted s s' → fewest s' ≡ fewest s
+same_fewest accepted s s' a =
+    ap (λ n. min (min n (room s'.two)) (room s'.three)) a.0.same_room
+    ∙ ap (λ n. min (min (room s.one) n) (room s'.three)) a.1.same_room
+    ∙ ap (λ n. min (min (room s.one) (room s.two)) n) a.2.same_room
 
--- the same of a billing account
-pub on_billing : (does : Account → Outcome Account) (w : Option Sort) (m m' : MeterAccount) (b b' : BillAccount) (r : Result Said ProgramFault) → w ≡ Some Billing →
-    AccountCame (does (billed b)) r (billed b') → AccountCame (does (account_in w m b)) r (account_in w m' b')
-on_billing does w m m' b b' r e came = subst (λ (v : Option Sort). AccountCame (does (account_in v m b)) r (account_in v m' b')) (sym e) came
+-- a call on the metering account, where it is the open one
+pub on_metering : (does : Account → Outcome Account) (a : Accounts) (m : MeteringOf) (r : Result Said ProgramFault) → a.opened ≡ Some Metering → AccountCame (does (metered (meters.metered a.metering))) r (metered (meters.metered m)) →
+    fewest m.meters.stores ≡ fewest a.metering.meters.stores → Called does r a (record { opened = a.opened; metering = m; billing = a.billing })
+on_metering does a m r e came slots = record {
+  came = subst (λ (v : Option Sort). AccountCame (does (account_in v (meters.metered a.metering) (bills.billed a.billing))) r (account_in v (meters.metered m) (bills.billed a.billing))) (sym e) came;
+  slots = ap (λ (n : ℕ). (n, room a.billing.store)) slots;
+}
+
+-- a call on the billing account likewise
+pub on_billing : (does : Account → Outcome Account) (a : Accounts) (b : BillingOf) (r : Result Said ProgramFault) → a.opened ≡ Some Billing → AccountCame (does (billed (bills.billed a.billing))) r (billed (bills.billed b)) →
+    room b.store ≡ room a.billing.store → Called does r a (record { opened = a.opened; metering = a.metering; billing = b })
+on_billing does a b r e came slots = record {
+  came = subst (λ (v : Option Sort). AccountCame (does (account_in v (meters.metered a.metering) (bills.billed a.billing))) r (account_in v (meters.metered a.metering) (bills.billed b))) (sym e) came;
+  slots = ap (λ (n : ℕ). (fewest a.metering.meters.stores, n)) slots;
+}
 
 -- the lines of a settlement, and those after them
 pub first_lines : (n : ℕ) (new old lines : List Line) → n ≡ length new → lines ≡ written new old → take n lines ≡ new

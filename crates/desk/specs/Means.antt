@@ -115,6 +115,11 @@ in_place (Some x) = Ok x
 abbrev pub AccountCame : Outcome Account → Result Said ProgramFault → Account → Type 0
 AccountCame o r account = (o.answer ≡ r) × (o.after ≡ account)
 
+-- a call on the code's accounts came out as is defined of the open one, and left as many slots
+pub record Called (does : Account → Outcome Account) (r : Result Said ProgramFault) (a a' : Accounts) : Type 0 where
+  pub came : AccountCame (does (account_of a)) r (account_of a')
+  pub slots : slots_of a' ≡ slots_of a
+
 -- what an answer says with the caller's lines, or a refusal
 abbrev pub said_with : List Line → Result Answer ProgramFault → Result Said ProgramFault
 said_with lines (Ok answer) = Ok (said answer lines)
@@ -144,6 +149,11 @@ pub record Means (d : Desk) (s : State) : Type 0 where
 -- a record came out so: its answer is the one defined, and the desk stands where it is defined to
 abbrev pub Came : Outcome State → Result Said ProgramFault → (State → Type 0) → Type 0
 Came o r Stands = (o.answer ≡ r) × Stands o.after
+
+-- what was done at a desk came out as is defined of each state that it stood at, and left as many slots
+pub record Done (does : State → Outcome State) (r : Result Said ProgramFault) (d d' : Desk) : Type 0 where
+  pub came : (s : State) → Means d s → Came (does s) r (Means d')
+  pub slots : slots_of d'.accounts ≡ slots_of d.accounts
 
 -- a record that brings a list of prices
 abbrev pub BringsPrices : Rec → Type 0

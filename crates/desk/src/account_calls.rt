@@ -7,7 +7,7 @@ ghost use Rattle.store.specs.Held.{room};
 ghost use Rattle.faults.specs.declared.ProgramFault.TheVariants.{InAccount};
 ghost use Rattle.desk.specs.State.Account.{none};
 ghost use Rattle.desk.specs.Accounts.{account_settled, account_turned, billing_opened, metering_opened, own_month, sums_entered};
-ghost use Rattle.desk.specs.Means.{AccountCame, account_of, in_place, lines_written, nothing_said, said_with, slots_of};
+ghost use Rattle.desk.specs.Means.{Called, account_of, in_place, lines_written, nothing_said, said_with, slots_of};
 
 use accounts::{Billing, Metering};
 use answers::Answer;
@@ -80,8 +80,7 @@ impl<'a> Accounts<'a> {
         power: u32,
         period: u8,
     ) -> Result<(), ProgramFault>
-        ensures came { AccountCame (metering_opened (meter_opening (fewest self.old.metering.meters.stores) month power period) (account_of self.old)) (nothing_said result) (account_of self.new) }
-        ensures slots { slots_of self.new ≡ slots_of self.old }
+        ensures { Called (metering_opened (meter_opening (fewest self.old.metering.meters.stores) month power period)) (nothing_said result) self.old self.new }
     {
         if self.opened.is_some() {
             return Err(ProgramFault::OutOfPlace);
@@ -93,8 +92,7 @@ impl<'a> Accounts<'a> {
 
     // Opens a billing account, where no account is open.
     pub(crate) fn open_billing(&mut self, month: u16, percentage: u8) -> Result<(), ProgramFault>
-        ensures came { AccountCame (billing_opened (bill_opening (room self.old.billing.store) month percentage) (account_of self.old)) (nothing_said result) (account_of self.new) }
-        ensures slots { slots_of self.new ≡ slots_of self.old }
+        ensures { Called (billing_opened (bill_opening (room self.old.billing.store) month percentage)) (nothing_said result) self.old self.new }
     {
         if self.opened.is_some() {
             return Err(ProgramFault::OutOfPlace);
@@ -106,8 +104,7 @@ impl<'a> Accounts<'a> {
 
     // Enters a month's sums into the open account; those that are refused are struck.
     pub(crate) fn enter(&mut self, sums: MonthSums) -> Result<(), ProgramFault>
-        ensures came { AccountCame (sums_entered sums (account_of self.old)) (nothing_said result) (account_of self.new) }
-        ensures slots { slots_of self.new ≡ slots_of self.old }
+        ensures { Called (sums_entered sums) (nothing_said result) self.old self.new }
     {
         match self.opened {
             None => {
@@ -121,9 +118,8 @@ impl<'a> Accounts<'a> {
 
     // Settles the open account.
     pub(crate) fn settle(&mut self, lines: &mut [Line]) -> Result<Answer, ProgramFault>
-        ensures came { AccountCame (account_settled (length lines.old) (account_of self.old)) (said_with lines.new result) (account_of self.new) }
+        ensures called { Called (account_settled (length lines.old)) (said_with lines.new result) self.old self.new }
         ensures lines { drop (lines_written result) lines.new ≡ drop (lines_written result) lines.old }
-        ensures slots { slots_of self.new ≡ slots_of self.old }
     {
         match self.opened {
             None => Err(ProgramFault::OutOfPlace),
@@ -140,8 +136,7 @@ impl<'a> Accounts<'a> {
 
     // Turns the open account to the next month.
     pub(crate) fn turn(&mut self) -> Result<Answer, ProgramFault>
-        ensures came { AccountCame (account_turned (account_of self.old)) (said_with [] result) (account_of self.new) }
-        ensures slots { slots_of self.new ≡ slots_of self.old }
+        ensures { Called account_turned (said_with [] result) self.old self.new }
     {
         let (refunded, lost) = match self.opened {
             None => return Err(ProgramFault::OutOfPlace),

@@ -9,7 +9,7 @@ ghost use Rattle.desk.specs.Accounts.{own_month};
 ghost use Rattle.desk.specs.Books.{each_in_range, hour_refusal, price_in_range, price_refusal, with_next_hour, with_hourly, with_monthly};
 ghost use Rattle.desk.specs.State.{BookState, State, outset};
 ghost use Rattle.desk.specs.Steps.{book_opened, book_step, change, finish_book};
-ghost use Rattle.desk.specs.Means.{Came, Changes, Means, Took, lines_written, memory_of, nothing_said, slots_of};
+ghost use Rattle.desk.specs.Means.{Changes, Done, Means, Took, lines_written, memory_of, nothing_said, slots_of};
 
 use crate::account_calls::Accounts;
 use crate::book::{Incomplete, OpenBook};
@@ -43,8 +43,7 @@ impl<'a> Desk<'a> {
 
     // Opens a book for the account's month, where no book is open.
     fn open_book(&mut self, tariff: Tariff) -> Result<(), ProgramFault>
-        ensures came { (s : State) → Means self.old s → Came (book_step (book_opened tariff.marks tariff.sale) s) (nothing_said result) (Means self.new) }
-        ensures slots { slots_of self.new.accounts ≡ slots_of self.old.accounts }
+        ensures { Done (book_step (book_opened tariff.marks tariff.sale)) (nothing_said result) self.old self.new }
     {
         let month = self.accounts.month()?;
         if self.book.is_some() {
@@ -60,8 +59,7 @@ impl<'a> Desk<'a> {
         does: F,
     ) -> Result<(), ProgramFault>
         requires { F.IsAlwaysCallable does }
-        ensures came { (refusal : BookState → Option BookFault) (becomes : BookState → BookState) → Changes (FnOnceReturnsAtMut F.FnOnce does) refusal becomes → (s : State) → Means self.old s → Came (book_step (change refusal becomes) s) (nothing_said result) (Means self.new) }
-        ensures slots { slots_of self.new.accounts ≡ slots_of self.old.accounts }
+        ensures { (refusal : BookState → Option BookFault) (becomes : BookState → BookState) → Changes (FnOnceReturnsAtMut F.FnOnce does) refusal becomes → Done (book_step (change refusal becomes)) (nothing_said result) self.old self.new }
     {
         self.accounts.month()?;
         let Some(open) = &mut self.book else {
@@ -73,32 +71,28 @@ impl<'a> Desk<'a> {
 
     // Takes a month price.
     fn set_month_price(&mut self, price: i32) -> Result<(), ProgramFault>
-        ensures came { (s : State) → Means self.old s → Came (book_step (change (λ _. price_refusal (price_in_range price)) (with_monthly price)) s) (nothing_said result) (Means self.new) }
-        ensures slots { slots_of self.new.accounts ≡ slots_of self.old.accounts }
+        ensures { Done (book_step (change (λ _. price_refusal (price_in_range price)) (with_monthly price))) (nothing_said result) self.old self.new }
     {
         self.change_book(|open| open.set_month_price(price))
     }
 
     // Takes hour prices.
     fn set_hour_prices(&mut self, prices: Vec<i32>) -> Result<(), ProgramFault>
-        ensures came { (s : State) → Means self.old s → Came (book_step (change (λ _. price_refusal (each_in_range prices.items)) (with_hourly prices.items)) s) (nothing_said result) (Means self.new) }
-        ensures slots { slots_of self.new.accounts ≡ slots_of self.old.accounts }
+        ensures { Done (book_step (change (λ _. price_refusal (each_in_range prices.items)) (with_hourly prices.items))) (nothing_said result) self.old self.new }
     {
         self.change_book(|open| open.set_hour_prices(prices))
     }
 
     // Takes a reading.
     fn read(&mut self, reading: Reading) -> Result<(), ProgramFault>
-        ensures came { (s : State) → Means self.old s → Came (book_step (change (hour_refusal reading.import reading.export) (with_next_hour reading.import reading.export)) s) (nothing_said result) (Means self.new) }
-        ensures slots { slots_of self.new.accounts ≡ slots_of self.old.accounts }
+        ensures { Done (book_step (change (hour_refusal reading.import reading.export) (with_next_hour reading.import reading.export))) (nothing_said result) self.old self.new }
     {
         self.change_book(|open| open.read(reading))
     }
 
     // Finishes the open book and enters its sums; the book is gone, also where the account refuses them.
     fn finish(&mut self) -> Result<(), ProgramFault>
-        ensures came { (s : State) → Means self.old s → Came (finish_book (own_month s.account) s.account s.book) (nothing_said result) (Means self.new) }
-        ensures slots { slots_of self.new.accounts ≡ slots_of self.old.accounts }
+        ensures { Done (λ s. finish_book (own_month s.account) s.account s.book) (nothing_said result) self.old self.new }
     {
         self.accounts.month()?;
         let open = self.book.take().ok_or(ProgramFault::OutOfPlace)?;
