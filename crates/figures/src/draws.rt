@@ -46,6 +46,7 @@ fn draw_invoice(store: &mut Store<Energy>) -> Result<u64, StoreFault> {
 fn outlive(store: &mut Store<Energy>) -> Result<(u16, u64), StoreFault> {
     store.open(75)?;
     store.enter(1000, ())?;
+    // Twelve turns: a count, and no index.
     for _ in 0..12 {
         store.turn()?;
     }

@@ -27,6 +27,7 @@ struct Use {
 fn push_days(readings: &mut Vec<Reading>, days: Days) -> Result<(), AllocError> {
     let mut taken = days.taken;
     let mut given = days.given;
+    // Each hour takes from what the ones before it left, and no index is used.
     for _ in 0..48 {
         let import = taken.min(100_000);
         taken -= import;

@@ -12,7 +12,7 @@ use crate::rules::Rule;
 #[derive(Clone, Copy)]
 pub struct Proportional;
 
-// w × s / t, rounded down.
+// w × s / t, rounded down. A cast, since `try_from` would answer a Result where the share always fits.
 fn share(w: u64, s: u64, t: u64) -> u64
     requires positive { 0 < t }
     requires part { w ≤ t }

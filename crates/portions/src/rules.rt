@@ -9,7 +9,7 @@ pub trait Rule {
     // From the month, the amounts left and the amount wanted, one taking for each amount.
     ghost gives: { Self → ℕ → List ℕ → ℕ → List ℕ };
 
-    // The takings in a month.
+    // The takings in a month. Its three parameters are one question, asked here alone, so they have no struct of their own.
     fn give(&self, month: u16, left: &Amounts, wanted: u32) -> Amounts
         ensures { listed result ≡ gives self.now month (listed left.now) wanted };
 

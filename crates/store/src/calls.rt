@@ -47,7 +47,7 @@ impl<'a, K: Kind> Store<'a, K> {
         Ok(())
     }
 
-    // Adds a portion of the current month, also of amount 0.
+    // Adds a portion of the current month, also of amount 0. Amount and terms become the portion here, so they are no struct before.
     pub fn enter(&mut self, amount: u32, terms: K::Terms) -> Result<(), StoreFault>
         ensures answer { result ≡ enter_answer (kind_of K.Kind) amount terms (ledger_of K.Kind self.old) }
         ensures state { ledger_of K.Kind self.new ≡ enter_after (kind_of K.Kind) amount terms (ledger_of K.Kind self.old) }

@@ -5,7 +5,8 @@ use portions::Slot;
 mod calls;
 mod passes;
 
-// The caller's slots, of which the first `filled` are in use.
+// The caller's slots, of which the first `filled` are in use: a slice and a length, since the memory is lent and nothing is
+// kept in a heap.
 #[derive(Drop)]
 pub struct Rows<'a> {
     pub(crate) slots: &'a mut [Slot],
