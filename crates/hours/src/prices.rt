@@ -6,8 +6,9 @@ ghost use Rattle.std.proofs.Common.{rules};
 
 use faults::BookFault;
 
-// A source of prices. Its question, a month and a place, is asked by one call alone, so the two are no struct. Its meaning is a state: `gives` is the price for a month and a place in it, or none,
+// A source of prices. Its meaning is a state: `gives` is the price for a month and a place in it, or none,
 // and `asked` is what asking makes of the state. Prices are in range, and asking changes no later answer.
+// Month and place are its one question, asked by one call alone, so they are no struct.
 pub trait PriceSource {
     ghost State: { Type 0 };
 
