@@ -1,5 +1,6 @@
 -- A book after the next hour, and its prices.
 use Rattle.std.proofs.Common.{◌≡◌, ℕ, Bool, true, false, cond, List, length, ℤ, Some, None, Ok, Err, Option, Result, sym, refl, ap, ◌∙◌, subst, arith}
+use Rattle.std.proofs.lemmas.Iterator.Adapters.{option_map_id}
 use Rattle.std.specs.Option.{option_map}
 use Rattle.faults.specs.declared.BookFault.{BookFault}
 use Rattle.calendar.specs.Hour.{month_hours}
@@ -13,16 +14,12 @@ use Rattle.desk.specs.State.{BookState}
 use Rattle.desk.specs.Books.{hourly_at, price_at, hour_read_next, with_next_hour, hour_refusal}
 use Rattle.desk.specs.Means.{Holds, HoldsAfter, hours_are, hours_give, month_is, monthly_gives}
 
-same : {A : Type 0} (x : Option A) → option_map (λ a. a) x ≡ x
-same None = refl
-same (Some a) = refl
-
 -- asking leaves both prices as they were
 pub kept_prices : {A B : Type 0} (asks : Bool) (g : Option ℤ) (x x' : Option A) (y y' : Option B) →
     ◌≡◌ {A = Option A × Option B} (x', y') (cond asks (option_map (λ a. a) x, unless_some g y (option_map (λ b. b) y)) (x, y)) → (x' ≡ x) × (y' ≡ y)
 kept_prices false g x x' y y' e = (ap (λ z. z.0) e, ap (λ z. z.1) e)
-kept_prices true None x x' y y' e = (ap (λ z. z.0) e ∙ same x, ap (λ z. z.1) e ∙ same y)
-kept_prices true (Some z) x x' y y' e = (ap (λ z. z.0) e ∙ same x, ap (λ z. z.1) e)
+kept_prices true None x x' y y' e = (ap (λ z. z.0) e ∙ option_map_id x, ap (λ z. z.1) e ∙ option_map_id y)
+kept_prices true (Some z) x x' y y' e = (ap (λ z. z.0) e ∙ option_map_id x, ap (λ z. z.1) e)
 
 -- the state with the next hour read, or not where it is refused
 abbrev after : ℕ → ℕ → BookState → Result (Unit {0}) BookFault → BookState

@@ -1,5 +1,6 @@
 -- Prices in range, by a test and as a fact, and a book after it was given prices.
 use Rattle.std.proofs.Common.{◌≡◌, ℕ, zero, suc, Bool, true, false, ◌&&◌, ltb, List, [], ◌∷◌, length, get_or, ℤ, pos, negsuc, Some, None, Err, vec_items, Option, Result, sym, refl, ap, ◌∙◌, subst, arith, rules, eq-eqb}
+use Rattle.std.proofs.lemmas.Bool.{and_from}
 use Rattle.faults.specs.declared.BookFault.{BookFault}
 use Rattle.faults.specs.declared.BookFault.TheVariants.{PriceOutOfRange}
 use Rattle.hours.specs.Price.{Priced, AllPriced, when}
@@ -17,9 +18,6 @@ priced : (z : ℤ) → price_in_range z ≡ true → Priced z
 priced (pos n) h = search rules
 priced (negsuc n) h = search rules
 
-both : (a b : Bool) → a ≡ true → b ≡ true → (a && b) ≡ true
-both a b p q = rw p q
-
 left : (a b : Bool) → (a && b) ≡ true → a ≡ true
 left true b e = refl
 left false b e = e
@@ -30,7 +28,7 @@ right false b e = let z : ◌≡◌ {A = ℕ} 0 1 = cc in absurd (omega arith)
 
 all_ranged : (zs : List ℤ) → AllPriced zs → each_in_range zs ≡ true
 all_ranged [] h = refl
-all_ranged (z ∷ zs) h = both _ _ (ranged z (h 0 (omega arith))) (all_ranged zs (λ k l. h (suc k) (omega arith)))
+all_ranged (z ∷ zs) h = and_from _ _ (ranged z (h 0 (omega arith))) (all_ranged zs (λ k l. h (suc k) (omega arith)))
 
 all_priced : (zs : List ℤ) → each_in_range zs ≡ true → AllPriced zs
 all_priced [] e k l = absurd (omega arith)

@@ -139,7 +139,7 @@ lines_written (Err fault) = 0
 
 -- the memory that a step works in, with room for so many lines
 abbrev pub memory_of : Desk → ℕ → Memory
-memory_of d lines = record { meter_slots = fewest d.accounts.metering.meters.stores; bill_slots = room d.accounts.billing.store; lines = lines }
+memory_of d lines = record { meter_slots = (slots_of d.accounts).0; bill_slots = (slots_of d.accounts).1; lines = lines }
 
 -- the code's desk stands at s
 pub record Means (d : Desk) (s : State) : Type 0 where
