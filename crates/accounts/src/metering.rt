@@ -13,7 +13,8 @@ mod covering;
 mod stores;
 mod tells;
 
-// The meters of an account: a store for each zone, and the import that is pending in each.
+// The meters of an account: a store for each zone, and the import that is pending in each. That the stores are open stands on
+// the calls that need it, and is no fact of the type, since before an opening the same stores are not.
 #[derive(Drop)]
 struct Meters<'a> {
     stores: Zones<Store<'a, Energy>>,

@@ -12,6 +12,7 @@ pub enum StepFault {
     NoMemory,
 }
 
+// Both by hand: clauses name the error that `?` makes, and a derived From promises none.
 impl From<ProgramFault> for StepFault {
     ghost from_gives = { λ fault r. r ≡ Refused fault };
 

@@ -96,6 +96,7 @@ impl<'a> Desk<'a> {
     {
         self.accounts.month()?;
         let open = self.book.take().ok_or(ProgramFault::OutOfPlace)?;
+        // A match, since both ends change the desk, which two closures could not.
         match open.finish() {
             Ok(sums) => self.accounts.enter(sums),
             Err(incomplete) => {

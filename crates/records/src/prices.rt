@@ -31,6 +31,7 @@ pub enum Unwritten {
     NoMemory,
 }
 
+// By hand: a clause names the error that `?` makes, and a derived From promises none.
 impl From<AllocError> for Unwritten {
     ghost from_gives = { λ _ r. r ≡ NoMemory };
 
