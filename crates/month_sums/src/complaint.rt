@@ -27,6 +27,7 @@ pub enum Complaint {
     Unwritable,
 }
 
+// Both by hand, since a derived From keeps the error in a field, and this case has none.
 impl From<AllocError> for Complaint {
     fn from(_e: AllocError) -> Complaint {
         Complaint::Memory

@@ -25,7 +25,8 @@ struct HourLine {
     price: Option<i32>,
 }
 
-// All hours in order, and the prices of the first of them.
+// All hours in order, and the prices of the first of them: two lists, since there may be fewer prices, and a source takes
+// its prices as a list.
 #[derive(Drop)]
 pub struct Hours {
     pub readings: Vec<Reading>,

@@ -49,11 +49,7 @@ pub(crate) fn sums_of(input: Input) -> Result<MonthSums, Complaint>
     let mut source = source_of(terms.month, terms.price, hours.prices)?;
     let sale = terms.sale;
     let tariff = Tariff { marks, sale };
-    sum_month(
-        terms.month,
-        tariff,
-        hours.readings.as_slice(),
-        &mut source,
+    sum_month(terms.month, tariff, hours.readings.as_slice(), &mut source).map_err(
+        |refused| complaint_of(refused, &marks),
     )
-    .map_err(|refused| complaint_of(refused, &marks))
 }

@@ -25,7 +25,8 @@ impl Line {
     }
 }
 
-// What a settlement covered and left due in each zone, in Wh, and the number of lines that it wrote.
+// What a settlement covered and left due in each zone, in Wh, and the number of lines that it wrote, which stand in the
+// caller's memory.
 #[derive(Clone, Copy)]
 pub struct Settlement {
     pub covered: Zones<u32>,
@@ -33,7 +34,7 @@ pub struct Settlement {
     pub lines: usize,
 }
 
-// What a bill used of the deposits and left due, in gr, and the number of lines that its settlement wrote.
+// What a bill used of the deposits and left due, in gr, and the number of lines that its settlement wrote there.
 #[derive(Clone, Copy)]
 pub struct Payment {
     pub used: u32,

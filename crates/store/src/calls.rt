@@ -60,7 +60,7 @@ impl<'a, K: Kind> Store<'a, K> {
         Ok(())
     }
 
-    // Takes what the rule gives: the sum taken.
+    // Takes what the rule gives: the sum taken. Rule and amount are a draw's two arguments, a generic and a number, so no struct of them.
     pub fn draw<R: Rule>(&mut self, rule: &R, wanted: u32) -> Result<u64, StoreFault>
         ensures answer { result ≡ draw_answer (kind_of K.Kind) (R.Rule.gives rule.now) wanted (ledger_of K.Kind self.old) }
         ensures state { ledger_of K.Kind self.new ≡ draw_after (kind_of K.Kind) (R.Rule.gives rule.now) wanted (ledger_of K.Kind self.old) }
