@@ -10,14 +10,6 @@ use portions::rules::Rule;
 use portions::{Kind, Slot};
 use store::Store;
 
-// A slot that holds nothing yet.
-pub(crate) const UNUSED: Slot = Slot {
-    month: 0,
-    entered: 0,
-    left: 0,
-    terms: 0,
-};
-
 // What a rule takes in a month from the amounts left.
 fn show_takings<R: Rule>(
     rt: &HostRuntime,
@@ -66,7 +58,7 @@ fn outlive(store: &mut Store<Energy>) -> Result<(u16, u64), StoreFault> {
 
 // What a store of energy answers.
 fn show_stores(rt: &HostRuntime) -> anyhow::Result<()> {
-    let mut slots = [UNUSED; 13];
+    let mut slots = [Slot::default(); 13];
     let mut store: Store<Energy> = Store::over(&mut slots);
     let got = match draw_invoice(&mut store) {
         Ok(used) => format!(in rt.alloc(); "{used} used, {} open", store.count())?,

@@ -1,21 +1,12 @@
 // Worked figures of settlements.
-use crate::draws::UNUSED;
 use crate::show;
 use accounts::{Billing, Metering};
 use anyhow::anyhow;
 use hours::{MonthPrice, MonthSums, Reading, Tariff, sum_month};
-use portions::Kind;
 use portions::oldest_first::OldestFirst;
+use portions::{Kind, Slot};
 use settlement::{Line, Returned};
 use std::alloc::{AllocError, Global};
-
-// A line that nothing is written into yet.
-const BLANK: Line = Line {
-    zone: 0,
-    month: 0,
-    used: 0,
-    left: 0,
-};
 
 // What is taken and given on two days, in Wh.
 #[derive(Clone, Copy)]
@@ -83,7 +74,9 @@ fn told(heap: Global, lines: &[Line], count: usize, due: [u32; 3]) -> Result<Str
     for line in lines.iter().take(count) {
         let next = format!(in heap;
             "zone {} used {} left {}, ",
-            line.zone, line.used, line.left
+            line.zone_number(),
+            line.used,
+            line.left
         )?;
         text.push_str(next.as_str())?;
     }
@@ -95,7 +88,11 @@ fn told(heap: Global, lines: &[Line], count: usize, due: [u32; 3]) -> Result<Str
 
 // A month of a metering account of so much power, settled oldest first.
 fn metered(heap: Global, power: u32, working: Days, weekend: Days) -> anyhow::Result<String> {
-    let (mut one, mut two, mut three) = ([UNUSED; 13], [UNUSED; 13], [UNUSED; 13]);
+    let (mut one, mut two, mut three) = (
+        [Slot::default(); 13],
+        [Slot::default(); 13],
+        [Slot::default(); 13],
+    );
     let mut account = Metering::over(&mut one, &mut two, &mut three);
     if account.open(97, power, 1).is_err() {
         return Err(anyhow!("the opening is refused"));
@@ -103,7 +100,7 @@ fn metered(heap: Global, power: u32, working: Days, weekend: Days) -> anyhow::Re
     if let Err(back) = account.enter(sums_of(heap, working, weekend)?) {
         return Err(struck(back));
     }
-    let mut lines = [BLANK; 39];
+    let mut lines = [Line::default(); 39];
     let Ok(settled) = account.settle(&OldestFirst, &mut lines) else {
         return Err(anyhow!("the settlement is refused"));
     };
@@ -113,7 +110,7 @@ fn metered(heap: Global, power: u32, working: Days, weekend: Days) -> anyhow::Re
 
 // A month of a billing account that caps refunds at 20 percent: its deposit with the cap, and the bill settled oldest first.
 fn billed(heap: Global, working: Days) -> anyhow::Result<String> {
-    let mut slots = [UNUSED; 13];
+    let mut slots = [Slot::default(); 13];
     let mut account = Billing::over(&mut slots);
     if account.open(97, 20).is_err() {
         return Err(anyhow!("the opening is refused"));
@@ -124,7 +121,7 @@ fn billed(heap: Global, working: Days) -> anyhow::Result<String> {
     let Some(deposit) = account.portion(0) else {
         return Err(anyhow!("there is no deposit"));
     };
-    let mut lines = [BLANK; 13];
+    let mut lines = [Line::default(); 13];
     let Ok(paid) = account.settle(&OldestFirst, &mut lines) else {
         return Err(anyhow!("the settlement is refused"));
     };

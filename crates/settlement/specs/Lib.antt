@@ -1,4 +1,5 @@
 pub mod Zones
+pub mod Lending
 pub mod Kinds
 pub mod Table
 pub mod Bounds

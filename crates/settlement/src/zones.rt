@@ -1,7 +1,9 @@
 // One thing for each of the three zones.
 ghost use Rattle.std.specs.Prelude.{◌≡◌};
 ghost use Rattle.std.specs.Fn.{FnReturnsAt};
-ghost use Rattle.settlement.specs.Zones.{in_order, of, put, Matched, MatchedThree};
+ghost use Rattle.std.specs.Borrow.{sem};
+ghost use Rattle.settlement.specs.Lending.{LendsZone};
+ghost use Rattle.settlement.specs.Zones.{in_order, of, Matched, MatchedThree};
 
 use hours::Zone;
 
@@ -35,16 +37,15 @@ impl<T> Zones<T> {
         }
     }
 
-    // Gives a zone another thing.
-    pub fn put(&mut self, zone: Zone, thing: T)
-    where
-        T: Drop,
-        ensures { self.new ≡ put zone thing self.old }
+    // What a zone has, to be changed.
+    pub fn of_mut(&mut self, zone: Zone) -> &mut T
+        ensures* writes_back { sem 𝓛 (LendsZone T.row self.entry zone result) }
+        ensures value { result.now ≡ of zone self.old }
     {
         match zone {
-            Zone::First => self.one = thing,
-            Zone::Second => self.two = thing,
-            Zone::Third => self.three = thing,
+            Zone::First => &mut self.one,
+            Zone::Second => &mut self.two,
+            Zone::Third => &mut self.three,
         }
     }
 

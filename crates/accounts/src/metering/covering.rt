@@ -41,11 +41,7 @@ impl<'a> Meters<'a> {
         ensures slots { EachDrawn self.old.stores self.new.stores }
         ensures ready { Ready self.new.stores }
     {
-        match from {
-            Zone::First => draw_store(&mut self.stores.one, rule, wanted),
-            Zone::Second => draw_store(&mut self.stores.two, rule, wanted),
-            Zone::Third => draw_store(&mut self.stores.three, rule, wanted),
-        }
+        draw_store(self.stores.of_mut(from), rule, wanted)
     }
 
     // Covers what is pending in a zone from the store of a zone.
@@ -57,7 +53,7 @@ impl<'a> Meters<'a> {
     {
         let rest = *self.pending.of(zone);
         let used = self.draw(rule, from, coefficient.wanted(rest));
-        self.pending.put(zone, coefficient.uncovered(rest, used));
+        *self.pending.of_mut(zone) = coefficient.uncovered(rest, used);
     }
 
     // Covers each zone from its own store, and then each from the stores of the others.
