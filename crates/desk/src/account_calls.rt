@@ -92,6 +92,7 @@ impl<'a> Accounts<'a> {
     }
 
     // Opens a billing account, where no account is open.
+    // A function of its own: an opening of each sort is asked other things, so one for both would take the call as a closure.
     pub(crate) fn open_billing(&mut self, month: u16, percentage: u8) -> Result<(), ProgramFault>
         ensures { Called (billing_opened (bill_opening (room self.old.billing.store) month percentage)) (nothing_said result) self.old self.new }
     {
