@@ -29,9 +29,9 @@ FreeIn l = has l.month l.portions ≡ false
 abbrev pub Free : Zones EnergyStore → Type 0
 Free s = FreeIn (energies s.one) × FreeIn (energies s.two) × FreeIn (energies s.three)
 
--- the stores, which are together, are open
+-- each store is open
 abbrev pub Ready : Zones EnergyStore → Type 0
-Ready s = (energies s.one).opened ≡ true
+Ready s = ((energies s.one).opened ≡ true) × ((energies s.two).opened ≡ true) × ((energies s.three).opened ≡ true)
 
 -- there is an amount for each portion of each store
 abbrev pub Known : Zones (List ℕ) → Zones (Ledger (Unit {0})) → Type 0

@@ -1,4 +1,5 @@
-// Calls on the three stores of a metering account together.
+// Calls on the three stores of a metering account together. Each names the three in a row: a closure for each zone would need
+// the clauses of the call on a store once more, and is no plainer.
 ghost use Rattle.std.specs.Prelude.{◌≡◌, ◌+◌, ◌<◌, ◌≤◌, true, length};
 ghost use Rattle.portions.specs.Listed.{listed};
 ghost use Rattle.ledger.specs.Ledger.{lefts, opening};
