@@ -63,6 +63,28 @@ impl<'a> Accounts<'a> {
         }
     }
 
+    // Which account is open, if one is.
+    pub fn opened(&self) -> Option<Sort>
+        ensures { result ≡ self.now.opened }
+    {
+        let Accounts { opened, .. } = self;
+        *opened
+    }
+
+    // The metering account.
+    pub fn metering(&self) -> &Metering<'a>
+        ensures { result.now ≡ self.now.metering }
+    {
+        &self.metering
+    }
+
+    // The billing account.
+    pub fn billing(&self) -> &Billing<'a>
+        ensures { result.now ≡ self.now.billing }
+    {
+        &self.billing
+    }
+
     // The month of the open account.
     pub(crate) fn month(&self) -> Result<u16, ProgramFault>
         ensures { result ≡ in_place (own_month (account_of self.now)) }

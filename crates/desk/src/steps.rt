@@ -41,6 +41,21 @@ impl<'a> Desk<'a> {
         }
     }
 
+    // The two accounts, as they stand.
+    pub fn accounts(&self) -> &Accounts<'a>
+        ensures { result.now ≡ self.now.accounts }
+    {
+        &self.accounts
+    }
+
+    // Ends the desk, and hands the accounts back. An open book is let go.
+    pub fn into_accounts(self) -> Accounts<'a>
+        ensures { result ≡ self.entry.accounts }
+    {
+        let Desk { accounts, book: _ } = self;
+        accounts
+    }
+
     // Opens a book for the account's month, where no book is open.
     fn open_book(&mut self, tariff: Tariff) -> Result<(), ProgramFault>
         ensures { Done (book_step (book_opened tariff.marks tariff.sale)) (nothing_said result) self.old self.new }

@@ -1,7 +1,7 @@
 // The book of a month: the energy taken and given in each zone, hour by hour.
 ghost use Rattle.std.specs.Prelude.{◌≤◌};
 ghost use Rattle.calendar.specs.Hour.{month_hours};
-ghost use Rattle.hours.specs.Bounds.{Cheap};
+ghost use Rattle.hours.specs.Bounds.{Bounded, Cheap};
 
 use crate::sums::Totals;
 use crate::zones::Zone;
@@ -60,6 +60,7 @@ pub struct Book {
     terms: Terms,
     tally: Tally,
     ghost begun: { tally.hours ≤ month_hours terms.month.number },
+    ghost bounded: { Bounded tally.hours tally.totals },
 }
 
 // Why a book is not finished, and the book as it was.

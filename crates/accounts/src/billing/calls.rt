@@ -105,7 +105,8 @@ impl<'a> Billing<'a> {
         Ok(payment)
     }
 
-    // Turns the store to the next month: the refunds and losses, summed.
+    // Turns the store to the next month: the refunds and losses, summed. The lines are those of a metering account over one store;
+    // a trait of both accounts would have no caller that is generic.
     pub fn turn(&mut self) -> Result<(u64, u64), AccountFault>
         ensures answer { result ≡ turn_answer billing (billed self.old) }
         ensures state { billed self.new ≡ turn_after billing (billed self.old) }
