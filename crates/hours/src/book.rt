@@ -18,14 +18,15 @@ pub struct Reading {
     pub export: u32,
 }
 
-// What energy is sold by: the zone marks of a working day and of a Saturday or Sunday, and the sale price of each zone.
+// What energy is sold by: the zone marks of a working day and of a Saturday or Sunday, and the sale price of each zone. They
+// are numbers, as they come: a book refuses those that name no zone, and prices that are too high.
 #[derive(Clone, Copy)]
 pub struct Tariff {
     pub marks: [[u8; 24]; 2],
     pub sale: [u32; 3],
 }
 
-// What a book is opened with: the zone of each clock hour of a working day and of a Saturday or Sunday, and the sale prices.
+// What a book is opened with: the month, the zone of each clock hour of a working day and of a Saturday or Sunday, and the sale prices.
 #[derive(Clone, Copy)]
 pub struct Terms {
     pub(crate) month: Month,

@@ -17,10 +17,5 @@ pub(crate) fn zones_of(row: &[u8; 24]) -> Result<[Zone; 24], BookFault>
     ensures named { RowNamed row.now result }
     ensures sized { IfOk result (λ zones. length zones ≡ 24) }
 {
-    let mut zones = [Zone::First; 24];
-    // By place: after an adapter of `iter_mut`, as `zip`, a proof knows nothing of what was written.
-    for (clock, mark) in row.iter().enumerate() {
-        zones[clock] = Zone::try_from(*mark)?;
-    }
-    Ok(zones)
+    row.try_map(|mark| Zone::try_from(mark))
 }

@@ -71,7 +71,8 @@ impl PriceSource for MonthPrice {
     }
 }
 
-// Hourly prices for one month, from its first hour on, and none past their end.
+// Hourly prices for one month, from its first hour on, and none past their end. The list is owned, since a source may stay
+// longer than what brought it.
 #[derive(Drop)]
 pub struct HourPrices {
     month: u16,

@@ -48,7 +48,8 @@ fn rate_of(price: i32) -> u32
     u32::try_from(price).unwrap_or(0)
 }
 
-// Energy at a price.
+// Energy at a price. Its bounds stand again on the two steps that hand the numbers on: a type for each would be taken apart at
+// the next step.
 fn amount(energy: u32, price: u32) -> u64
     requires energy { energy ≤ 100000 }
     requires price { price ≤ 1000000 }
