@@ -1,5 +1,5 @@
-// What accounts of either sort ask before an opening, and calls on a store inside one, none of which is refused: each asks
-// that the store is open, which a store lent by its zone cannot say of itself.
+// What accounts of either sort ask before an opening, and calls on a store inside one, none of which is refused: those after an
+// opening ask that the store is open, which a store lent by its zone cannot say of itself.
 ghost use Rattle.std.specs.Prelude.{◌≡◌, ◌+◌, ◌<◌, ◌≤◌, true, if◌then◌else◌, None, Ok, Err, nat_le, nat_lt};
 ghost use Rattle.faults.specs.declared.AccountFault.TheVariants.{MonthOutOfRange};
 ghost use Rattle.faults.specs.declared.StoreFault.TheVariants.{TooFewSlots};

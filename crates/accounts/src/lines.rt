@@ -43,6 +43,7 @@ pub(crate) fn write_lines<K: Kind>(
     ensures count { result ≡ length (ledger_of K.Kind store.now).portions }
     ensures lines { lines.new ≡ written (lines_of zone (listed before.now) (ledger_of K.Kind store.now).portions) lines.old }
 {
+    // By place: a store tells its portions one by one and has no iterator, which here alone would go over it.
     let count = store.count();
     for (place, line) in lines[..count].iter_mut().enumerate() {
         *line = line_at(store, place, zone, before.at(place));

@@ -77,7 +77,7 @@ pub fn print_answer(out: &mut String, answer: &Answer, lines: &[Line]) -> Result
     }
 }
 
-// Prints a refusal: the record's place, and the number of the refusal.
+// Prints a refusal: the record's place, and the number of the refusal, which may be any: a narrower type would ask more.
 pub fn print_refusal(out: &mut String, place: usize, number: u8) -> Result<(), AllocError>
     ensures text { OnOk result (string_bytes out.new ≡ string_bytes out.old ++ refusal_text place number) }
     ensures begun { OnErr result (Begun (refusal_of place number ∷ []) out.old out.new) }

@@ -25,8 +25,8 @@ pub enum Sort {
     Billing,
 }
 
-// An account of each sort, and which of them is open, if one is. Its calls match the sort, since the two accounts answer in
-// types of their own, which no one trait or `dyn` has for both.
+// An account of each sort, and which of them is open, if one is. Its calls match the sort: a trait of both accounts would be
+// matched all the same, as a `dyn` may not be handed out.
 #[derive(Drop)]
 pub struct Accounts<'a> {
     opened: Option<Sort>,

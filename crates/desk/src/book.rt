@@ -16,7 +16,8 @@ pub struct OpenBook {
     prices: StandIn<Option<HourPrices>, Option<MonthPrice>>,
 }
 
-// Why a book is not finished, and the book as it was.
+// Why a book is not finished, and the book as it was, over an open book what the hours' `Unfinished` is over a book: one generic
+// struct of both would be a pair without names.
 #[derive(Drop)]
 pub(crate) struct Incomplete {
     pub(crate) fault: BookFault,

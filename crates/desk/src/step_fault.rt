@@ -5,7 +5,8 @@ ghost use Rattle.desk.specs.declared.step_fault.StepFault.TheVariants.{Refused, 
 use faults::ProgramFault;
 use std::alloc::AllocError;
 
-// Why a record has no answer: it is refused, or there is no memory for the hour prices that it brings.
+// Why a record has no answer: it is refused, or there is no memory for the hour prices that it brings. The records' `Unwritten`
+// has the same cases, and says why a record was not written: two questions, of which either may get a case more.
 #[derive(Clone, Copy, PartialEq, Eq, Debug)]
 pub enum StepFault {
     Refused(ProgramFault),

@@ -111,15 +111,12 @@ impl<'a> Desk<'a> {
     {
         self.accounts.month()?;
         let open = self.book.take().ok_or(ProgramFault::OutOfPlace)?;
-        // A match, since both ends change the desk, which two closures could not.
-        match open.finish() {
-            Ok(sums) => self.accounts.enter(sums),
-            Err(incomplete) => {
-                let Incomplete { fault, open } = incomplete;
-                self.book = Some(open);
-                Err(ProgramFault::InBook(fault))
-            }
-        }
+        let sums = open.finish().map_err(|incomplete| {
+            let Incomplete { fault, open } = incomplete;
+            self.book = Some(open);
+            ProgramFault::InBook(fault)
+        })?;
+        self.accounts.enter(sums)
     }
 
     // Takes a record: what it is answered, or why it is refused. A settlement writes its lines over the first of the caller's.

@@ -34,7 +34,7 @@ pub struct Settlement {
     pub lines: usize,
 }
 
-// What a bill used of the deposits and left due, in gr, and the number of lines that its settlement wrote there.
+// What a bill used of the deposits and left due, in gr, and the number of lines that its settlement wrote into the caller's memory.
 #[derive(Clone, Copy)]
 pub struct Payment {
     pub used: u32,

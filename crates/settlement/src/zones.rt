@@ -26,7 +26,7 @@ impl<T> From<[T; 3]> for Zones<T> {
 }
 
 impl<T> Zones<T> {
-    // What a zone has. Here and in `of_mut` alone a zone is matched with its thing.
+    // What a zone has. A zone is matched with its thing here and in `of_mut`, so that no caller does.
     pub fn of(&self, zone: Zone) -> &T
         ensures { result.now ≡ of zone self.now }
     {

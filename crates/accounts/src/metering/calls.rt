@@ -61,7 +61,8 @@ impl<'a> Metering<'a> {
         Period::try_from(months)
     }
 
-    // Starts anew in a month, with a power in W and a period of so many months.
+    // Starts anew in a month, with a power in W and a period of so many months. They are numbers, as a caller has them, and go no
+    // further than this call, so they are no struct.
     pub fn open(&mut self, month: u16, power: u32, months: u8) -> Result<(), AccountFault>
         ensures answer { result ≡ open_answer metering (meter_opening (fewest self.old.meters.stores) month power months) (metered self.old) }
         ensures state { metered self.new ≡ open_after metering (meter_opening (fewest self.old.meters.stores) month power months) (metered self.old) }
