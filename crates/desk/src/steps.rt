@@ -111,12 +111,16 @@ impl<'a> Desk<'a> {
     {
         self.accounts.month()?;
         let open = self.book.take().ok_or(ProgramFault::OutOfPlace)?;
-        let sums = open.finish().map_err(|incomplete| {
-            let Incomplete { fault, open } = incomplete;
-            self.book = Some(open);
-            ProgramFault::InBook(fault)
-        })?;
-        self.accounts.enter(sums)
+        // A match: with `map_err` the proof does not close, since of what an uncalled closure borrowed, here the book's place,
+        // nothing is known.
+        match open.finish() {
+            Ok(sums) => self.accounts.enter(sums),
+            Err(incomplete) => {
+                let Incomplete { fault, open } = incomplete;
+                self.book = Some(open);
+                Err(ProgramFault::InBook(fault))
+            }
+        }
     }
 
     // Takes a record: what it is answered, or why it is refused. A settlement writes its lines over the first of the caller's.
