@@ -8,27 +8,45 @@ use portions::oldest_first::OldestFirst;
 use portions::proportional::Proportional;
 use portions::rules::Rule;
 use portions::{Kind, Slot};
+use std::alloc::{AllocError, Global};
 use store::Store;
 
-// What a rule takes in a month from the amounts left.
-fn show_takings<R: Rule>(
-    rt: &HostRuntime,
-    figure: Figure<'_>,
-    rule: &R,
+// A figure of a draw: its month, the amounts left and the amount wanted.
+#[derive(Clone, Copy)]
+struct Draw<'a> {
+    figure: Figure<'a>,
     month: u16,
-    left: &[u32],
+    left: &'a [u32],
     wanted: u32,
-) -> anyhow::Result<()> {
+}
+
+// A slice's amounts, the first 16 at most.
+fn amounts_of(left: &[u32]) -> Amounts {
     let mut amounts = Amounts::new();
     for amount in left {
         amounts.push(*amount);
     }
-    let takings = rule.give(month, &amounts, wanted);
-    let mut got = String::new(rt.alloc());
+    amounts
+}
+
+// The takings, each after a space but the first.
+fn told(heap: Global, takings: &Amounts) -> Result<String, AllocError> {
+    let mut text = String::new(heap);
     for taking in takings.as_slice() {
-        write!(got, "{taking} ")?;
+        let gap = if text.is_empty() { "" } else { " " };
+        write!(text, "{gap}{taking}")?;
     }
-    figure.show(rt, got.as_str().trim_end())
+    Ok(text)
+}
+
+// What a rule takes in each draw.
+fn show_takings<R: Rule>(rt: &HostRuntime, rule: &R, draws: &[Draw<'_>]) -> anyhow::Result<()> {
+    for draw in draws {
+        let takings = rule.give(draw.month, &amounts_of(draw.left), draw.wanted);
+        let got = told(rt.alloc(), &takings)?;
+        draw.figure.show(rt, got.as_str())?;
+    }
+    Ok(())
 }
 
 // A seller's invoice: six months' portions, from July 2024 on, and all of them drawn in December, oldest first.
@@ -42,17 +60,34 @@ fn draw_invoice(store: &mut Store<Energy>) -> Result<u64, StoreFault> {
     store.draw(&OldestFirst, 2_507_500)
 }
 
-// A portion of month 75, turned until it ends: the month it is last told in, and what is lost with the next turn.
-fn outlive(store: &mut Store<Energy>) -> Result<(u16, u64), StoreFault> {
+// A portion's end: the month that it was last open in, None where it ended early, and what is lost with the next turn.
+#[derive(Clone, Copy)]
+struct End {
+    last: Option<u16>,
+    lost: u64,
+}
+
+impl End {
+    fn told(self, heap: Global) -> Result<String, AllocError> {
+        let lost = self.lost;
+        match self.last {
+            Some(last) => format!(in heap; "open in {last}, then {lost} lost"),
+            None => format!(in heap; "ended early, then {lost} lost"),
+        }
+    }
+}
+
+// A portion of month 75, turned until it ends.
+fn outlive(store: &mut Store<Energy>) -> Result<End, StoreFault> {
     store.open(75)?;
     store.enter(1000, ())?;
     // Twelve turns: a count, and no index.
     for _ in 0..12 {
         store.turn()?;
     }
-    let last = if store.count() == 1 { store.month() } else { 0 };
+    let last = (store.count() == 1).then_some(store.month());
     let (_, lost) = store.turn()?;
-    Ok((last, lost))
+    Ok(End { last, lost })
 }
 
 // What a store of energy answers.
@@ -69,7 +104,7 @@ fn show_stores(rt: &HostRuntime) -> anyhow::Result<()> {
     }
     .show(rt, got.as_str())?;
     let got = match outlive(&mut store) {
-        Ok((last, lost)) => format!(in rt.alloc(); "open in {last}, then {lost} lost")?,
+        Ok(end) => end.told(rt.alloc())?,
         Err(fault) => format!(in rt.alloc(); "refused by {}", fault.number())?,
     };
     Figure {
@@ -79,70 +114,80 @@ fn show_stores(rt: &HostRuntime) -> anyhow::Result<()> {
     .show(rt, got.as_str())
 }
 
-pub(crate) fn show_draws(rt: &HostRuntime) -> anyhow::Result<()> {
-    let settled = Dated {
+// What is left of two portions.
+const HALVES: [u32; 2] = [200_000, 300_000];
+
+// What is left of the portions of a seller's table.
+const SELLERS: [u32; 8] = [
+    141_000, 237_000, 12_000, 20_000, 52_000, 231_000, 490_000, 456_000,
+];
+
+// Draws in proportion.
+fn show_proportional(rt: &HostRuntime) -> anyhow::Result<()> {
+    let draws = [
+        Draw {
+            figure: Figure {
+                name: "250,000 in proportion",
+                expected: "100000 150000",
+            },
+            month: 74,
+            left: &HALVES,
+            wanted: 250_000,
+        },
+        Draw {
+            figure: Figure {
+                name: "2 in proportion",
+                expected: "0 1 1",
+            },
+            month: 74,
+            left: &[1, 1, 1],
+            wanted: 2,
+        },
+        Draw {
+            figure: Figure {
+                name: "a seller's table in proportion",
+                expected: "20560 34560 1750 2916 7583 33684 71452 66495",
+            },
+            month: 74,
+            left: &SELLERS,
+            wanted: 239_000,
+        },
+    ];
+    show_takings(rt, &Proportional, &draws)
+}
+
+// A rule in proportion through month 74, and oldest first afterwards.
+fn show_dated(rt: &HostRuntime) -> anyhow::Result<()> {
+    let rule = Dated {
         through: 74,
         first: Proportional,
         then: OldestFirst,
     };
-    let halves = [200_000, 300_000];
-    let sellers = [
-        141_000, 237_000, 12_000, 20_000, 52_000, 231_000, 490_000, 456_000,
+    let draws = [
+        Draw {
+            figure: Figure {
+                name: "dated, in month 74",
+                expected: "100000 150000",
+            },
+            month: 74,
+            left: &HALVES,
+            wanted: 250_000,
+        },
+        Draw {
+            figure: Figure {
+                name: "dated, in month 75",
+                expected: "200000 50000",
+            },
+            month: 75,
+            left: &HALVES,
+            wanted: 250_000,
+        },
     ];
-    show_takings(
-        rt,
-        Figure {
-            name: "250,000 in proportion",
-            expected: "100000 150000",
-        },
-        &Proportional,
-        74,
-        &halves,
-        250_000,
-    )?;
-    show_takings(
-        rt,
-        Figure {
-            name: "2 in proportion",
-            expected: "0 1 1",
-        },
-        &Proportional,
-        74,
-        &[1, 1, 1],
-        2,
-    )?;
-    show_takings(
-        rt,
-        Figure {
-            name: "a seller's table in proportion",
-            expected: "20560 34560 1750 2916 7583 33684 71452 66495",
-        },
-        &Proportional,
-        74,
-        &sellers,
-        239_000,
-    )?;
-    show_takings(
-        rt,
-        Figure {
-            name: "dated, in month 74",
-            expected: "100000 150000",
-        },
-        &settled,
-        74,
-        &halves,
-        250_000,
-    )?;
-    show_takings(
-        rt,
-        Figure {
-            name: "dated, in month 75",
-            expected: "200000 50000",
-        },
-        &settled,
-        75,
-        &halves,
-        250_000,
-    )?;
+    show_takings(rt, &rule, &draws)
+}
+
+pub(crate) fn show_draws(rt: &HostRuntime) -> anyhow::Result<()> {
+    show_proportional(rt)?;
+    show_dated(rt)?;
     show_stores(rt)
 }

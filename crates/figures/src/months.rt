@@ -50,7 +50,7 @@ fn show_hours(rt: &HostRuntime, number: u16, expected: &str) -> anyhow::Result<(
     let got = format!(in heap; "{hours}")?;
     Figure {
         name: name.as_str(),
-        expected: expected,
+        expected,
     }
     .show(rt, got.as_str())
 }
@@ -75,7 +75,7 @@ fn show_day(rt: &HostRuntime, number: u16, day: u8, expected: &str) -> anyhow::R
     let name = format!(in heap; "clock hours of day {day} of month {number}")?;
     Figure {
         name: name.as_str(),
-        expected: expected,
+        expected,
     }
     .show(rt, got.as_str().trim_end())
 }

@@ -10,11 +10,14 @@ use settlement::{Line, Returned};
 use std::alloc::{AllocError, Global};
 
 // What is taken and given on two days, in Wh.
-#[derive(Clone, Copy, Default)]
+#[derive(Clone, Copy)]
 struct Days {
     taken: u32,
     given: u32,
 }
+
+// Two days of nothing.
+const NOTHING: Days = Days { taken: 0, given: 0 };
 
 // What is taken and given in February 2024: on its first Thursday and Friday, and on the weekend after them.
 #[derive(Clone, Copy)]
@@ -114,7 +117,7 @@ fn billed(heap: Global, working: Days) -> anyhow::Result<String> {
             heap,
             Use {
                 working,
-                weekend: Days::default(),
+                weekend: NOTHING,
             },
         )?)
         .map_err(struck)?;
@@ -132,92 +135,96 @@ fn billed(heap: Global, working: Days) -> anyhow::Result<String> {
     )?)
 }
 
-fn show_metered(rt: &HostRuntime, figure: Figure<'_>, power: u32, used: Use) -> anyhow::Result<()> {
-    let got = metered(rt.alloc(), power, used)?;
-    figure.show(rt, got.as_str())
+// A figure of a metering account's month: the power, and what is taken and given.
+#[derive(Clone, Copy)]
+struct Case<'a> {
+    figure: Figure<'a>,
+    power: u32,
+    used: Use,
 }
 
-fn show_billed(rt: &HostRuntime, figure: Figure<'_>, working: Days) -> anyhow::Result<()> {
-    let got = billed(rt.alloc(), working)?;
-    figure.show(rt, got.as_str())
-}
-
-pub(crate) fn show_settlements(rt: &HostRuntime) -> anyhow::Result<()> {
-    let peak = Days {
-        taken: 200_000,
-        given: 600_000,
-    };
-    let off_peak = Days {
-        taken: 300_000,
-        given: 100_000,
-    };
-    show_metered(
-        rt,
-        Figure {
+// The months of metering accounts that are shown.
+const METERED: [Case<'static>; 4] = [
+    Case {
+        figure: Figure {
             name: "zones that help each other",
             expected: "zone 1 used 525000 left 75000, zone 2 used 100000 left 0, zone 3 used 0 left 0, due 0 0 0",
         },
-        10_000,
-        Use {
-            working: peak,
-            weekend: off_peak,
+        power: 10_000,
+        used: Use {
+            working: Days {
+                taken: 200_000,
+                given: 600_000,
+            },
+            weekend: Days {
+                taken: 300_000,
+                given: 100_000,
+            },
         },
-    )?;
-    let year = Days {
-        taken: 2_006_000,
-        given: 2_461_000,
-    };
-    show_metered(
-        rt,
-        Figure {
+    },
+    Case {
+        figure: Figure {
             name: "a store that does not suffice",
             expected: "zone 1 used 2461000 left 0, zone 2 used 0 left 0, zone 3 used 0 left 0, due 37200 0 0",
         },
-        10_000,
-        Use {
-            working: year,
-            weekend: Days::default(),
+        power: 10_000,
+        used: Use {
+            working: Days {
+                taken: 2_006_000,
+                given: 2_461_000,
+            },
+            weekend: NOTHING,
         },
-    )?;
-    let ample = Days {
-        taken: 1_000,
-        given: 100_000,
-    };
-    show_metered(
-        rt,
-        Figure {
+    },
+    Case {
+        figure: Figure {
             name: "over 10 kW",
             expected: "zone 1 used 1429 left 98571, zone 2 used 0 left 0, zone 3 used 0 left 0, due 0 0 0",
         },
-        10_001,
-        Use {
-            working: ample,
-            weekend: Days::default(),
+        power: 10_001,
+        used: Use {
+            working: Days {
+                taken: 1_000,
+                given: 100_000,
+            },
+            weekend: NOTHING,
         },
-    )?;
-    let least = Days { taken: 1, given: 1 };
-    show_metered(
-        rt,
-        Figure {
+    },
+    Case {
+        figure: Figure {
             name: "1 Wh",
             expected: "zone 1 used 1 left 0, zone 2 used 0 left 0, zone 3 used 0 left 0, due 1 0 0",
         },
-        10_000,
-        Use {
-            working: least,
-            weekend: Days::default(),
+        power: 10_000,
+        used: Use {
+            working: Days { taken: 1, given: 1 },
+            weekend: NOTHING,
         },
-    )?;
-    let paid = Days {
+    },
+];
+
+fn show_metered(rt: &HostRuntime) -> anyhow::Result<()> {
+    for case in METERED.iter() {
+        let got = metered(rt.alloc(), case.power, case.used)?;
+        case.figure.show(rt, got.as_str())?;
+    }
+    Ok(())
+}
+
+fn show_billed(rt: &HostRuntime) -> anyhow::Result<()> {
+    let working = Days {
         taken: 100_000,
         given: 100_000,
     };
-    show_billed(
-        rt,
-        Figure {
-            name: "a deposit of 30,000,000,000 and a bill",
-            expected: "deposit 36900 cap 6000 used 36900 due 23100",
-        },
-        paid,
-    )
+    let got = billed(rt.alloc(), working)?;
+    Figure {
+        name: "a deposit of 30,000,000,000 and a bill",
+        expected: "deposit 36900 cap 6000 used 36900 due 23100",
+    }
+    .show(rt, got.as_str())
+}
+
+pub(crate) fn show_settlements(rt: &HostRuntime) -> anyhow::Result<()> {
+    show_metered(rt)?;
+    show_billed(rt)
 }
