@@ -1,11 +1,10 @@
 // The input's lines: the terms of the month, two rows of zone marks, and the hours. Words stand between blanks.
 ghost use Rattle.std.specs.Prelude.{◌≡◌, ◌≤◌, [], ◌∷◌, ◌++◌, Some, None, Ok, Err, vec_len, OnOk};
-ghost use Rattle.std.specs.Int.{w32};
-ghost use Rattle.std.specs.Str.Parse.{ParsesSigned, ParsesUnsigned};
 
 use crate::complaint::{Complaint, Reason};
 use crate::month::parse_month;
 use crate::refusal::hour_line;
+use crate::word::parse_word;
 use hours::Reading;
 use std::alloc::Global;
 use std::str::Lines;
@@ -48,39 +47,15 @@ fn in_line<T>(line: usize, parsed: Result<T, Reason>) -> Result<T, Complaint>
     parsed.map_err(|reason| Complaint::Line { line, reason })
 }
 
-fn parse_price(word: &str) -> Result<i32, Reason>
-    ensures { ParsesSigned w32 10 word.now result }
-{
-    word.parse::<i32>().map_err(|_| Reason::Price)
-}
-
-fn parse_sale(word: &str) -> Result<u32, Reason>
-    ensures { ParsesUnsigned 32 10 word.now result }
-{
-    word.parse::<u32>().map_err(|_| Reason::SalePrice)
-}
-
-fn parse_mark(word: &str) -> Result<u8, Reason>
-    ensures { ParsesUnsigned 8 10 word.now result }
-{
-    word.parse::<u8>().map_err(|_| Reason::Mark)
-}
-
-fn parse_energy(word: &str) -> Result<u32, Reason>
-    ensures { ParsesUnsigned 32 10 word.now result }
-{
-    word.parse::<u32>().map_err(|_| Reason::Energy)
-}
-
 fn parse_terms(line: Option<&str>) -> Result<Terms, Reason> {
     let mut words = line.ok_or(Reason::NoLine)?.split_whitespace();
     let terms = Terms {
         month: parse_month(words.next().ok_or(Reason::TermCount)?)?,
-        price: parse_price(words.next().ok_or(Reason::TermCount)?)?,
+        price: parse_word::<i32>(words.next().ok_or(Reason::TermCount)?, Reason::Price)?,
         sale: [
-            parse_sale(words.next().ok_or(Reason::TermCount)?)?,
-            parse_sale(words.next().ok_or(Reason::TermCount)?)?,
-            parse_sale(words.next().ok_or(Reason::TermCount)?)?,
+            parse_word::<u32>(words.next().ok_or(Reason::TermCount)?, Reason::SalePrice)?,
+            parse_word::<u32>(words.next().ok_or(Reason::TermCount)?, Reason::SalePrice)?,
+            parse_word::<u32>(words.next().ok_or(Reason::TermCount)?, Reason::SalePrice)?,
         ],
     };
     if words.next().is_some() {
@@ -93,7 +68,7 @@ fn parse_marks(line: Option<&str>) -> Result<[u8; 24], Reason> {
     let mut marks = [0; 24];
     let mut words = line.ok_or(Reason::NoLine)?.split_whitespace();
     for mark in marks.iter_mut() {
-        *mark = parse_mark(words.next().ok_or(Reason::MarkCount)?)?;
+        *mark = parse_word::<u8>(words.next().ok_or(Reason::MarkCount)?, Reason::Mark)?;
     }
     if words.next().is_some() {
         return Err(Reason::MarkCount);
@@ -104,10 +79,13 @@ fn parse_marks(line: Option<&str>) -> Result<[u8; 24], Reason> {
 fn parse_hour(line: &str) -> Result<HourLine, Reason> {
     let mut words = line.split_whitespace();
     let reading = Reading {
-        import: parse_energy(words.next().ok_or(Reason::ReadingCount)?)?,
-        export: parse_energy(words.next().ok_or(Reason::ReadingCount)?)?,
+        import: parse_word::<u32>(words.next().ok_or(Reason::ReadingCount)?, Reason::Energy)?,
+        export: parse_word::<u32>(words.next().ok_or(Reason::ReadingCount)?, Reason::Energy)?,
     };
-    let price = words.next().map(parse_price).transpose()?;
+    let price = words
+        .next()
+        .map(|word| parse_word::<i32>(word, Reason::Price))
+        .transpose()?;
     if words.next().is_some() {
         return Err(Reason::ReadingCount);
     }

@@ -18,6 +18,7 @@ mod sums;
 mod table;
 #[cfg(test)]
 mod tests;
+mod word;
 
 // The table that the input's text makes, as it is printed.
 fn month_table(heap: Global, text: &str) -> Result<String, Complaint> {

@@ -3,6 +3,7 @@ ghost use Rattle.std.specs.Prelude.{◌≡◌, ℕ, ◌<◌, IfOk, Some, None, �
 ghost use Rattle.calendar.specs.Calendar.{calendar_month_of, year_of};
 
 use crate::complaint::Reason;
+use crate::word::parse_word;
 use calendar::Month;
 use faults::BookFault;
 use std::fmt;
@@ -53,7 +54,7 @@ pub(crate) fn parse_month(text: &str) -> Result<u16, Reason>
     if year.len() != 4 || month.len() != 2 || text.contains('+') {
         return Err(Reason::MonthText);
     }
-    let year = year.parse::<u16>().map_err(|_| Reason::MonthText)?;
-    let month = month.parse::<u8>().map_err(|_| Reason::MonthText)?;
+    let year = parse_word::<u16>(year, Reason::MonthText)?;
+    let month = parse_word::<u8>(month, Reason::MonthText)?;
     month_number(year, month).ok_or(Reason::Library(BookFault::MonthOutOfRange))
 }
