@@ -16,7 +16,7 @@ struct Days {
     given: u32,
 }
 
-// Two days of nothing.
+// Two days of nothing, written out, since the value of a constant may not call `default`.
 const NOTHING: Days = Days { taken: 0, given: 0 };
 
 // What is taken and given in February 2024: on its first Thursday and Friday, and on the weekend after them.
