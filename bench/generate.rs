@@ -98,7 +98,10 @@ impl File {
     }
 
     fn open_metering(&mut self, month: u16, power: u32, period: u8) {
-        self.record(OPEN_METERING, &[&month.to_le_bytes()[..], &power.to_le_bytes(), &[period]].concat());
+        self.record(
+            OPEN_METERING,
+            &[&month.to_le_bytes()[..], &power.to_le_bytes(), &[period]].concat(),
+        );
     }
 
     fn open_billing(&mut self, month: u16, percentage: u8) {
@@ -207,7 +210,9 @@ fn reading(chance: &mut Chance, habit: Habit, place: u32) -> (u32, u32) {
         Habit::Sunny | Habit::Dark => (chance.below(2_500), chance.below(40)),
         Habit::Mixed => (chance.below(3_000), chance.below(3_000)),
         Habit::Tiny => (chance.below(3), chance.below(3)),
-        Habit::Extreme => chance.pick(&[(most, 0), (0, most), (most, most), (0, 0), (most - 1, most)]),
+        Habit::Extreme => {
+            chance.pick(&[(most, 0), (0, most), (most, most), (0, 0), (most - 1, most)])
+        }
         Habit::OnlyImport => (most, 0),
         Habit::OnlyExport => (0, most),
         Habit::Any => (chance.below(most + 1), chance.below(most + 1)),
@@ -327,7 +332,11 @@ impl Walk<'_> {
 
     fn open_account(&mut self) {
         let month = self.month_near_a_limit();
-        let opened = if self.chance.once_in(2) { self.open_metering(month) } else { self.open_billing(month) };
+        let opened = if self.chance.once_in(2) {
+            self.open_metering(month)
+        } else {
+            self.open_billing(month)
+        };
         let in_range = (FIRST_MONTH..=LAST_MONTH).contains(&month);
         if self.account.is_none() && in_range {
             self.account = opened.map(|period| (month, period));
@@ -362,10 +371,13 @@ impl Walk<'_> {
         }
         let good_sale = !self.chance.once_in(8);
         if !good_sale {
-            sale[self.chance.below(3) as usize] = self.chance.pick(&[LARGEST_PRICE + 1, u32::MAX, 1 << 31]);
+            sale[self.chance.below(3) as usize] =
+                self.chance.pick(&[LARGEST_PRICE + 1, u32::MAX, 1 << 31]);
         }
         self.file.open_book(&marks, sale);
-        if let (true, true, None, Some((month, _))) = (good_marks, good_sale, self.book, self.account) {
+        if let (true, true, None, Some((month, _))) =
+            (good_marks, good_sale, self.book, self.account)
+        {
             self.book = Some(hours_of(month));
         }
     }
@@ -377,7 +389,8 @@ impl Walk<'_> {
     }
 
     fn give_month_price(&mut self) {
-        let price = if self.chance.once_in(3) { self.price_near_a_limit() } else { price(self.chance) };
+        let price =
+            if self.chance.once_in(3) { self.price_near_a_limit() } else { price(self.chance) };
         self.file.month_price(price);
     }
 
@@ -511,7 +524,8 @@ impl Walk<'_> {
 }
 
 fn refusals(chance: &mut Chance, size: usize) -> File {
-    let mut walk = Walk { file: File::default(), chance, account: None, book: None, entered: false };
+    let mut walk =
+        Walk { file: File::default(), chance, account: None, book: None, entered: false };
     let odd = walk.chance.between(2, 6);
     while walk.file.bytes.len() < size {
         if walk.chance.once_in(odd) {
@@ -558,7 +572,11 @@ fn damage(bytes: &mut Vec<u8>, chance: &mut Chance) {
 fn damage_payload(bytes: &mut [u8], chance: &mut Chance) {
     let places = places(bytes);
     if let [first, .., last] = places[..] {
-        let record = if chance.once_in(3) { chance.pick(&places[..places.len().min(5)]) } else { chance.pick(&places) };
+        let record = if chance.once_in(3) {
+            chance.pick(&places[..places.len().min(5)])
+        } else {
+            chance.pick(&places)
+        };
         let place = (record + 4 + chance.below(8) as usize).clamp(first + 4, last);
         bytes[place] = chance.next() as u8;
     }

@@ -20,8 +20,6 @@ const HEAD: usize = 4;
 const READING_RECORD: usize = HEAD + 8;
 /// The first four bytes of each reading: a payload of 8 bytes, kind 6.
 const READING_HEAD: [u8; HEAD] = [8, 0, 6, 0];
-/// Stands in a list of rates where no price is known.
-const NO_RATE: u32 = u32::MAX;
 
 #[derive(Clone, Copy)]
 enum Refusal {
@@ -115,8 +113,12 @@ fn decode(kind: u16, payload: &[u8]) -> Answer<Record<'_>> {
 fn decode_tariff(payload: &[u8]) -> Option<Tariff<'_>> {
     let (working, rest) = payload.split_first_chunk()?;
     let (weekend, rest) = rest.split_first_chunk()?;
-    let (prices, []) = rest.as_chunks() else { return None };
-    let [first, second, third] = *prices else { return None };
+    let (prices, []) = rest.as_chunks() else {
+        return None;
+    };
+    let [first, second, third] = *prices else {
+        return None;
+    };
     Some(Tariff { working, weekend, sale: [first, second, third].map(u32::from_le_bytes) })
 }
 
@@ -143,8 +145,7 @@ fn days_in(year: u32, month: u32) -> u32 {
     }
 }
 
-/// What the clock does on the last Sunday of a month.
-#[derive(Clone, Copy, PartialEq)]
+/// What the clock does with its hour 2 on the last Sunday of a month.
 enum Change {
     Nothing,
     Skips,
@@ -172,21 +173,23 @@ impl MonthDays {
         Self { days: days_in(year, month), first_weekday: (4 + years + months) % 7, change }
     }
 
-    /// The zone of each hour, as an index from 0, in order.
-    fn zones(&self, tariff: &Tariff) -> Vec<u8> {
+    /// The zone of each hour, in order.
+    fn zones(&self, working: &[Zone; 24], weekend: &[Zone; 24]) -> Vec<Zone> {
         let mut zones = Vec::with_capacity(MOST_HOURS);
         for day in 0..self.days {
             let weekday = (self.first_weekday + day) % 7;
-            let marks = if weekday >= 5 { tariff.weekend } else { tariff.working };
+            let day_zones = if weekday >= 5 { weekend } else { working };
             let last_sunday = weekday == 6 && day + 7 >= self.days;
-            let change = if last_sunday { self.change } else { Change::Nothing };
-            for (clock, mark) in marks.iter().enumerate() {
-                let times = match change {
-                    Change::Skips if clock == 2 => 0,
-                    Change::Repeats if clock == 2 => 2,
-                    _ => 1,
-                };
-                zones.extend(iter::repeat_n(mark - 1, times));
+            match self.change {
+                Change::Skips if last_sunday => {
+                    zones.extend_from_slice(&day_zones[..2]);
+                    zones.extend_from_slice(&day_zones[3..]);
+                }
+                Change::Repeats if last_sunday => {
+                    zones.extend_from_slice(&day_zones[..3]);
+                    zones.extend_from_slice(&day_zones[2..]);
+                }
+                _ => zones.extend_from_slice(day_zones),
             }
         }
         zones
@@ -195,10 +198,39 @@ impl MonthDays {
 
 // Month book
 
+#[derive(Clone, Copy)]
+enum Zone {
+    First,
+    Second,
+    Third,
+}
+
+impl Zone {
+    fn of_mark(mark: u8) -> Answer<Self> {
+        match mark {
+            1 => Ok(Self::First),
+            2 => Ok(Self::Second),
+            3 => Ok(Self::Third),
+            _ => Err(Refusal::MarkOutOfRange),
+        }
+    }
+
+    fn of_marks(marks: &[u8; 24]) -> Answer<[Self; 24]> {
+        let mut zones = [Self::First; 24];
+        for (zone, &mark) in zones.iter_mut().zip(marks) {
+            *zone = Self::of_mark(mark)?;
+        }
+        Ok(zones)
+    }
+}
+
+fn check_price(price: i32) -> Answer<()> {
+    refuse_if(price.unsigned_abs() > LARGEST_PRICE, Refusal::PriceOutOfRange)
+}
+
 /// What the energy given is worth at a price: a negative one counts as 0.
-fn rate_of(price: i32) -> Answer<u32> {
-    refuse_if(price.unsigned_abs() > LARGEST_PRICE, Refusal::PriceOutOfRange)?;
-    Ok(price.max(0).unsigned_abs())
+fn rate_of(price: i32) -> u32 {
+    price.max(0).unsigned_abs()
 }
 
 #[derive(Clone, Copy, Default)]
@@ -214,29 +246,39 @@ struct Tally {
 }
 
 impl Tally {
+    /// Adds a reading, unless it is too large or has no rate where it needs one.
     #[inline(always)]
-    fn add(&mut self, reading: Reading, zone: u8, rate: u32) {
-        let taken = u64::from(reading.import.saturating_sub(reading.export));
-        let given = u64::from(reading.export.saturating_sub(reading.import));
-        if let Some(energy) = self.zones.get_mut(usize::from(zone)) {
-            energy.taken += taken;
-            energy.given += given;
-        }
-        self.value += given * u64::from(rate);
+    fn add(&mut self, reading: Reading, zone: Zone, rate: Option<u32>) -> Answer<()> {
+        let Reading { import, export } = reading;
+        refuse_if(import.max(export) > LARGEST_READING, Refusal::ReadingTooLarge)?;
+        refuse_if(rate.is_none() && export > import, Refusal::NoPrice)?;
+        let given = u64::from(export.saturating_sub(import));
+        let energy = &mut self.zones[zone as usize];
+        energy.taken += u64::from(import.saturating_sub(export));
+        energy.given += given;
+        self.value += given * u64::from(rate.unwrap_or(0));
+        Ok(())
     }
 
-    fn add_run(&mut self, records: &[[u8; READING_RECORD]], zones: &[u8], rates: impl Iterator<Item = u32>) -> usize {
+    /// Adds the readings that the records begin with, each with the zone and rate of its hour, and
+    /// returns how many these are.
+    fn add_run(
+        &mut self,
+        records: &[[u8; READING_RECORD]],
+        zones: &[Zone],
+        rates: impl Iterator<Item = Option<u32>>,
+    ) -> usize {
         let mut tally = *self;
         let mut count = 0;
         for ((record, &zone), rate) in records.iter().zip(zones).zip(rates) {
             let &[l0, l1, k0, k1, a, b, c, d, e, f, g, h] = record;
             let import = u32::from_le_bytes([a, b, c, d]);
             let export = u32::from_le_bytes([e, f, g, h]);
-            let fits = [l0, l1, k0, k1] == READING_HEAD && import.max(export) <= LARGEST_READING;
-            if !fits || (rate == NO_RATE && export > import) {
+            if [l0, l1, k0, k1] != READING_HEAD
+                || tally.add(Reading { import, export }, zone, rate).is_err()
+            {
                 break;
             }
-            tally.add(Reading { import, export }, zone, rate);
             count += 1;
         }
         *self = tally;
@@ -255,8 +297,8 @@ struct Book {
     month: u16,
     sale: [u32; ZONES],
     /// The zone of each hour of the month.
-    zones: Vec<u8>,
-    month_rate: u32,
+    zones: Vec<Zone>,
+    month_rate: Option<u32>,
     hour_rates: Vec<u32>,
     hours_read: usize,
     tally: Tally,
@@ -264,14 +306,17 @@ struct Book {
 
 impl Book {
     fn open(month: u16, tariff: &Tariff) -> Answer<Self> {
-        let mut marks = tariff.working.iter().chain(tariff.weekend);
-        refuse_if(marks.any(|mark| !(1..=3).contains(mark)), Refusal::MarkOutOfRange)?;
-        refuse_if(tariff.sale.iter().any(|&price| price > LARGEST_PRICE), Refusal::SalePriceTooHigh)?;
+        let working = Zone::of_marks(tariff.working)?;
+        let weekend = Zone::of_marks(tariff.weekend)?;
+        refuse_if(
+            tariff.sale.iter().any(|&price| price > LARGEST_PRICE),
+            Refusal::SalePriceTooHigh,
+        )?;
         Ok(Self {
             month,
             sale: tariff.sale,
-            zones: MonthDays::of(month).zones(tariff),
-            month_rate: NO_RATE,
+            zones: MonthDays::of(month).zones(&working, &weekend),
+            month_rate: None,
             hour_rates: Vec::new(),
             hours_read: 0,
             tally: Tally::default(),
@@ -279,23 +324,24 @@ impl Book {
     }
 
     fn set_month_price(&mut self, price: i32) -> Answer<()> {
-        self.month_rate = rate_of(price)?;
+        check_price(price)?;
+        self.month_rate = Some(rate_of(price));
         Ok(())
     }
 
     fn set_hour_prices(&mut self, prices: &[[u8; 4]]) -> Answer<()> {
-        self.hour_rates =
-            prices.iter().map(|&price| rate_of(i32::from_le_bytes(price))).collect::<Answer<_>>()?;
+        let prices = prices.iter().map(|&price| i32::from_le_bytes(price));
+        prices.clone().try_for_each(check_price)?;
+        self.hour_rates.clear();
+        self.hour_rates.extend(prices.map(rate_of));
         Ok(())
     }
 
     fn read(&mut self, reading: Reading) -> Answer<()> {
-        let Reading { import, export } = reading;
-        refuse_if(import.max(export) > LARGEST_READING, Refusal::ReadingTooLarge)?;
+        refuse_if(reading.import.max(reading.export) > LARGEST_READING, Refusal::ReadingTooLarge)?;
         let &zone = self.zones.get(self.hours_read).ok_or(Refusal::BookComplete)?;
-        let rate = self.hour_rates.get(self.hours_read).copied().unwrap_or(self.month_rate);
-        refuse_if(export > import && rate == NO_RATE, Refusal::NoPrice)?;
-        self.tally.add(reading, zone, rate);
+        let rate = self.hour_rates.get(self.hours_read).copied().or(self.month_rate);
+        self.tally.add(reading, zone, rate)?;
         self.hours_read += 1;
         Ok(())
     }
@@ -306,10 +352,14 @@ impl Book {
         let (records, _) = bytes.as_chunks();
         let zones = self.zones.get(self.hours_read..).unwrap_or_default();
         let listed = self.hour_rates.get(self.hours_read..).unwrap_or_default();
-        let mut count = self.tally.add_run(records, zones, listed.iter().copied());
+        let mut count = self.tally.add_run(records, zones, listed.iter().copied().map(Some));
         if count == listed.len() {
             let (records, zones) = (&records[count..], &zones[count..]);
-            count += self.tally.add_run(records, zones, iter::repeat(self.month_rate));
+            // a loop for either, since the one test would cost at every reading
+            count += match self.month_rate {
+                Some(rate) => self.tally.add_run(records, zones, iter::repeat(Some(rate))),
+                None => self.tally.add_run(records, zones, iter::repeat(None)),
+            };
         }
         self.hours_read += count;
         count
@@ -318,7 +368,8 @@ impl Book {
     fn sums(&self) -> Answer<Sums> {
         refuse_if(self.hours_read < self.zones.len(), Refusal::HoursMissing)?;
         let Tally { zones, value } = self.tally;
-        let charge = zones.iter().zip(self.sale).map(|(zone, price)| zone.taken * u64::from(price)).sum();
+        let charge =
+            zones.iter().zip(self.sale).map(|(zone, price)| zone.taken * u64::from(price)).sum();
         Ok(Sums { month: self.month, zones, charge, value })
     }
 }
@@ -477,7 +528,8 @@ impl Metering {
             *rest = Self::cover(*rest, self.tenths, store, rule);
         }
         for (zone, rest) in due.iter_mut().enumerate() {
-            for (_, store) in self.stores.iter_mut().enumerate().filter(|&(other, _)| other != zone) {
+            for (_, store) in self.stores.iter_mut().enumerate().filter(|&(other, _)| other != zone)
+            {
                 *rest = Self::cover(*rest, self.tenths, store, rule);
             }
         }
@@ -725,7 +777,9 @@ fn report(file: &[u8]) -> Report {
             report.refused(place, Refusal::FileEnds);
             return report;
         };
-        if let Err(refusal) = decode(kind, payload).and_then(|record| desk.take(record, &mut report)) {
+        if let Err(refusal) =
+            decode(kind, payload).and_then(|record| desk.take(record, &mut report))
+        {
             report.refused(place, refusal);
         }
         rest = after;
