@@ -1,7 +1,8 @@
 //! Writes a record file to standard output: `generate SEED SORT SIZE > file`.
 //!
-//! SORT is one of metering, billing, refusals, damaged and readings. SIZE is about how large the file is, in
-//! megabytes for readings and in kilobytes for the others. The same three words always give the same file.
+//! SORT is one of metering, billing, refusals, damaged and readings. SIZE is about how large the file
+//! is, in megabytes for readings and in kilobytes for the others. The same three words always give the
+//! same file.
 
 use std::env;
 use std::io::{self, BufWriter, Write};
@@ -416,7 +417,18 @@ impl Walk<'_> {
         }
     }
 
-    /// As many readings as the book wants, or some fewer or more.
+    /// Some prices of either kind, one after the other, or none.
+    fn some_prices(&mut self) {
+        for _ in 0..self.chance.below(4) {
+            if self.chance.once_in(3) {
+                self.give_month_price();
+            } else {
+                self.give_hour_prices();
+            }
+        }
+    }
+
+    /// As many readings as the book wants, or some fewer or more, and prices among them.
     fn readings(&mut self) {
         let wanted = self.book.unwrap_or_else(|| self.chance.below(4));
         let fewer = self.chance.below(wanted + 1);
@@ -426,6 +438,9 @@ impl Walk<'_> {
         }
         let habit = self.chance.pick(&HABITS);
         for place in 0..count {
+            if self.chance.once_in(600) {
+                self.some_prices();
+            }
             let (import, export) = reading(self.chance, habit, place);
             self.file.reading(import, export);
             if self.chance.once_in(3_000) {
@@ -599,7 +614,8 @@ fn damaged(chance: &mut Chance, size: usize) -> File {
 
 // Files for measuring
 
-/// Books of one month, again and again: the first is entered, and the others are refused when they are finished.
+/// Books of one month, again and again: the first is entered, and the others are refused when they are
+/// finished.
 fn readings(chance: &mut Chance, size: usize) -> File {
     let mut file = File::default();
     file.bytes.reserve(size + 20_000);

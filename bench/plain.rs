@@ -1,6 +1,7 @@
 //! Reads a record file on standard input and prints what its records tell, a line each.
 //!
-//! Written from the pages in docs/ alone, so that a program made in another way can be compared with it.
+//! Written from the pages in docs/ alone, so that a program made in another way can be compared with
+//! it.
 
 use std::array;
 use std::io::{self, Read, Write};
@@ -262,6 +263,8 @@ impl Tally {
 
     /// Adds the readings that the records begin with, each with the zone and rate of its hour, and
     /// returns how many these are.
+    // on its own, so that the registers are the loop's
+    #[inline(never)]
     fn add_run(
         &mut self,
         records: &[[u8; READING_RECORD]],
@@ -347,22 +350,22 @@ impl Book {
     }
 
     /// Reads the readings that the bytes begin with, up to the first record that is none or would be
-    /// refused, and returns how many these are.
-    fn read_run(&mut self, bytes: &[u8]) -> usize {
+    /// refused, and returns the rest.
+    fn read_run<'a>(&mut self, bytes: &'a [u8]) -> &'a [u8] {
         let (records, _) = bytes.as_chunks();
         let zones = self.zones.get(self.hours_read..).unwrap_or_default();
         let listed = self.hour_rates.get(self.hours_read..).unwrap_or_default();
         let mut count = self.tally.add_run(records, zones, listed.iter().copied().map(Some));
         if count == listed.len() {
             let (records, zones) = (&records[count..], &zones[count..]);
-            // a loop for either, since the one test would cost at every reading
+            // a type of rates for either, so that there is a loop for either
             count += match self.month_rate {
-                Some(rate) => self.tally.add_run(records, zones, iter::repeat(Some(rate))),
+                Some(rate) => self.tally.add_run(records, zones, iter::repeat(rate).map(Some)),
                 None => self.tally.add_run(records, zones, iter::repeat(None)),
             };
         }
         self.hours_read += count;
-        count
+        &bytes[count * READING_RECORD..]
     }
 
     fn sums(&self) -> Answer<Sums> {
@@ -739,6 +742,14 @@ impl Desk {
         }
     }
 
+    /// Takes the readings that the bytes begin with, as many as would be accepted, and returns the rest.
+    fn take_readings<'a>(&mut self, bytes: &'a [u8]) -> &'a [u8] {
+        match &mut self.book {
+            Some(book) => book.read_run(bytes),
+            None => bytes,
+        }
+    }
+
     fn open(&mut self, account: impl FnOnce() -> Answer<Account>) -> Answer<()> {
         refuse_if(self.account.is_some(), Refusal::OutOfPlace)?;
         self.account = Some(account()?);
@@ -764,26 +775,21 @@ fn report(file: &[u8]) -> Report {
     let mut desk = Desk::default();
     let mut report = Report::default();
     let mut rest = file;
-    loop {
-        if let Some(book) = &mut desk.book {
-            let count = book.read_run(rest);
-            rest = rest.get(count * READING_RECORD..).unwrap_or_default();
-        }
-        if rest.is_empty() {
-            return report;
-        }
+    while !rest.is_empty() {
         let place = file.len() - rest.len();
         let Some((kind, payload, after)) = split_record(rest) else {
             report.refused(place, Refusal::FileEnds);
-            return report;
+            break;
         };
-        if let Err(refusal) =
-            decode(kind, payload).and_then(|record| desk.take(record, &mut report))
-        {
-            report.refused(place, refusal);
+        match decode(kind, payload).and_then(|record| desk.take(record, &mut report)) {
+            Ok(()) => rest = desk.take_readings(after),
+            Err(refusal) => {
+                report.refused(place, refusal);
+                rest = after;
+            }
         }
-        rest = after;
     }
+    report
 }
 
 fn main() -> io::Result<()> {
