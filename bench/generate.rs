@@ -158,6 +158,10 @@ fn sale_price(chance: &mut Chance) -> u32 {
     }
 }
 
+fn in_range(price: i32) -> bool {
+    price.unsigned_abs() <= LARGEST_PRICE
+}
+
 fn price(chance: &mut Chance) -> i32 {
     match chance.below(10) {
         0 => 0,
@@ -313,15 +317,53 @@ fn billing(chance: &mut Chance, size: usize) -> File {
 
 // Runs with refusals
 
-/// What the generator knows of the run, so that some of its records are accepted.
+/// The book that is open in a run.
+struct OpenBook {
+    month: u16,
+    read: u32,
+    has_month_price: bool,
+    hour_prices: u32,
+}
+
+impl OpenBook {
+    fn missing(&self) -> u32 {
+        hours_of(self.month) - self.read
+    }
+
+    fn read(&mut self, import: u32, export: u32) {
+        let fits = import <= LARGEST_READING && export <= LARGEST_READING;
+        let has_price = self.read < self.hour_prices || self.has_month_price;
+        if fits && self.missing() > 0 && (export <= import || has_price) {
+            self.read += 1;
+        }
+    }
+}
+
+#[derive(Clone, Copy, PartialEq)]
+enum State {
+    Waiting,
+    Entered,
+    Settled,
+}
+
+struct OpenAccount {
+    month: u16,
+    period: u16,
+    state: State,
+}
+
+impl OpenAccount {
+    fn period_ends(&self) -> bool {
+        (self.month + 1).is_multiple_of(self.period)
+    }
+}
+
+/// A run of which the generator knows where it stands, so that as much is accepted as is wanted.
 struct Walk<'a> {
     file: File,
     chance: &'a mut Chance,
-    /// The account's month and period, once one is open.
-    account: Option<(u16, u16)>,
-    /// The hours that the open book still has to read.
-    book: Option<u32>,
-    entered: bool,
+    account: Option<OpenAccount>,
+    book: Option<OpenBook>,
 }
 
 impl Walk<'_> {
@@ -333,23 +375,25 @@ impl Walk<'_> {
 
     fn open_account(&mut self) {
         let month = self.month_near_a_limit();
-        let opened = if self.chance.once_in(2) {
-            self.open_metering(month)
-        } else {
+        let opened = if self.chance.once_in(3) {
             self.open_billing(month)
+        } else {
+            self.open_metering(month)
         };
         let in_range = (FIRST_MONTH..=LAST_MONTH).contains(&month);
         if self.account.is_none() && in_range {
-            self.account = opened.map(|period| (month, period));
+            self.account =
+                opened.map(|period| OpenAccount { month, period, state: State::Waiting });
         }
     }
 
     fn open_metering(&mut self, month: u16) -> Option<u16> {
         let any = self.chance.next() as u32;
         let good = power(self.chance);
-        let power = self.chance.pick(&[0, 50_001, u32::MAX, any, good, good, good, good]);
+        let power =
+            self.chance.pick(&[0, 50_001, u32::MAX, any, good, good, good, good, good, good]);
         let any = self.chance.below(256) as u8;
-        let period = self.chance.pick(&[0, 3, 4, 5, 7, 12, any, 1, 1, 1, 2, 2, 6, 6]);
+        let period = self.chance.pick(&[0, 3, 12, any, 1, 1, 1, 2, 2, 2, 6, 6, 6]);
         self.file.open_metering(month, power, period);
         let accepted = (1..=50_000).contains(&power) && [1, 2, 6].contains(&period);
         accepted.then_some(period.into())
@@ -376,10 +420,11 @@ impl Walk<'_> {
                 self.chance.pick(&[LARGEST_PRICE + 1, u32::MAX, 1 << 31]);
         }
         self.file.open_book(&marks, sale);
-        if let (true, true, None, Some((month, _))) =
-            (good_marks, good_sale, self.book, self.account)
+        if let (true, true, None, Some(account)) =
+            (good_marks, good_sale, &self.book, &self.account)
         {
-            self.book = Some(hours_of(month));
+            let month = account.month;
+            self.book = Some(OpenBook { month, read: 0, has_month_price: false, hour_prices: 0 });
         }
     }
 
@@ -390,9 +435,12 @@ impl Walk<'_> {
     }
 
     fn give_month_price(&mut self) {
-        let price =
-            if self.chance.once_in(3) { self.price_near_a_limit() } else { price(self.chance) };
+        let odd = self.chance.once_in(3);
+        let price = if odd { self.price_near_a_limit() } else { price(self.chance) };
         self.file.month_price(price);
+        if let (Some(book), true) = (&mut self.book, in_range(price)) {
+            book.has_month_price = true;
+        }
     }
 
     fn give_hour_prices(&mut self) {
@@ -404,17 +452,23 @@ impl Walk<'_> {
             prices[self.chance.below(count) as usize] = self.price_near_a_limit();
         }
         self.file.hour_prices(&prices);
+        if let (Some(book), true) = (&mut self.book, prices.iter().all(|&price| in_range(price))) {
+            book.hour_prices = count;
+        }
+    }
+
+    fn read(&mut self, import: u32, export: u32) {
+        self.file.reading(import, export);
+        if let Some(book) = &mut self.book {
+            book.read(import, export);
+        }
     }
 
     fn odd_reading(&mut self) {
         let most = LARGEST_READING;
         let choices = [0, 1, 2, most - 1, most, most + 1, u32::MAX, 1 << 31];
         let (import, export) = (self.chance.pick(&choices), self.chance.pick(&choices));
-        self.file.reading(import, export);
-        // if it was refused for its price the book has one hour more to read than is known here
-        if let (Some(hours), true) = (&mut self.book, import <= most && export <= most) {
-            *hours = hours.saturating_sub(1);
-        }
+        self.read(import, export);
     }
 
     /// Some prices of either kind, one after the other, or none.
@@ -430,7 +484,7 @@ impl Walk<'_> {
 
     /// As many readings as the book wants, or some fewer or more, and prices among them.
     fn readings(&mut self) {
-        let wanted = self.book.unwrap_or_else(|| self.chance.below(4));
+        let wanted = self.book.as_ref().map_or(2, OpenBook::missing);
         let fewer = self.chance.below(wanted + 1);
         let count = self.chance.pick(&[wanted, wanted, wanted, wanted + 1, wanted + 3, fewer]);
         if !self.chance.once_in(4) {
@@ -442,39 +496,58 @@ impl Walk<'_> {
                 self.some_prices();
             }
             let (import, export) = reading(self.chance, habit, place);
-            self.file.reading(import, export);
+            self.read(import, export);
             if self.chance.once_in(3_000) {
                 self.step();
             }
-        }
-        if let Some(hours) = &mut self.book {
-            *hours = hours.saturating_sub(count);
         }
     }
 
     fn finish(&mut self) {
         self.file.bare(FINISH);
-        if self.book == Some(0) {
+        let (Some(book), Some(account)) = (&self.book, &mut self.account) else {
+            return;
+        };
+        if book.missing() == 0 {
+            if account.state == State::Waiting && account.month == book.month {
+                account.state = State::Entered;
+            }
             self.book = None;
-            self.entered = true;
+        }
+    }
+
+    fn settle(&mut self) {
+        self.file.bare(SETTLE);
+        if let Some(account) = &mut self.account
+            && account.state == State::Entered
+            && account.period_ends()
+        {
+            account.state = State::Settled;
         }
     }
 
     fn turn(&mut self) {
         self.file.bare(TURN);
-        if let (Some((month, _)), true) = (&mut self.account, self.entered) {
-            *month = (*month + 1).min(LAST_MONTH);
-            self.entered = false;
+        if let Some(account) = &mut self.account {
+            let done = match account.state {
+                State::Waiting => false,
+                State::Entered => !account.period_ends(),
+                State::Settled => true,
+            };
+            if done && account.month < LAST_MONTH {
+                account.month += 1;
+                account.state = State::Waiting;
+            }
         }
     }
 
-    /// A month is brought to its end, a book of it read, and finished only after the turn.
+    /// A month is brought to its end, a book of it opened, and read and finished after the turn.
     fn book_over_a_turn(&mut self) {
         self.open_book();
         if self.chance.once_in(2) {
             self.readings();
         }
-        self.file.bare(SETTLE);
+        self.settle();
         self.turn();
         self.readings();
         self.finish();
@@ -509,7 +582,7 @@ impl Walk<'_> {
             3 => self.give_hour_prices(),
             4 | 5 => self.odd_reading(),
             6 => self.finish(),
-            7 => self.file.bare(SETTLE),
+            7 => self.settle(),
             8 => self.turn(),
             9 => self.malformed(),
             10 => self.unknown_kind(),
@@ -517,30 +590,26 @@ impl Walk<'_> {
         }
     }
 
-    /// What would come next in a valid run.
+    /// What would come next in a valid run, or now and then another book for a month that has its sums.
     fn onward(&mut self) {
-        let Some((month, period)) = self.account else {
+        let Some(account) = &self.account else {
             return self.open_account();
         };
-        match self.book {
-            Some(0) => self.finish(),
+        let waits = account.state == State::Waiting;
+        let settles = account.state == State::Entered && account.period_ends();
+        match &self.book {
+            Some(book) if book.missing() == 0 => self.finish(),
             Some(_) => self.readings(),
-            None if !self.entered => self.open_book(),
+            None if waits || self.chance.once_in(6) => self.open_book(),
             None if self.chance.once_in(6) => self.book_over_a_turn(),
-            None if self.chance.once_in(6) => self.open_book(),
-            None => {
-                if (month + 1).is_multiple_of(period) {
-                    self.file.bare(SETTLE);
-                }
-                self.turn();
-            }
+            None if settles => self.settle(),
+            None => self.turn(),
         }
     }
 }
 
 fn refusals(chance: &mut Chance, size: usize) -> File {
-    let mut walk =
-        Walk { file: File::default(), chance, account: None, book: None, entered: false };
+    let mut walk = Walk { file: File::default(), chance, account: None, book: None };
     let odd = walk.chance.between(2, 6);
     while walk.file.bytes.len() < size {
         if walk.chance.once_in(odd) {

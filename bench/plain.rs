@@ -467,7 +467,7 @@ impl Store {
 
     fn tell(&self, zone: u64, report: &mut Report) {
         for portion in &self.portions {
-            report.line(b'L', &[zone, portion.month.into(), portion.used, portion.left]);
+            report.line(b'L', [zone, portion.month.into(), portion.used, portion.left]);
         }
     }
 }
@@ -540,7 +540,7 @@ impl Metering {
             store.tell(zone, report);
         }
         for (zone, due) in (1..).zip(due) {
-            report.line(b'D', &[zone, due]);
+            report.line(b'D', [zone, due]);
         }
     }
 }
@@ -564,7 +564,7 @@ impl Billing {
         let bill = std::mem::take(&mut self.bill);
         let used = self.store.draw(bill, rule);
         self.store.tell(0, report);
-        report.line(b'D', &[0, bill - used]);
+        report.line(b'D', [0, bill - used]);
     }
 }
 
@@ -666,12 +666,43 @@ impl Account {
         for store in stores {
             store.turn_to(self.month, &mut run_out);
         }
-        report.line(b'T', &[run_out.refunded, run_out.lost]);
+        report.line(b'T', [run_out.refunded, run_out.lost]);
         Ok(())
     }
 }
 
 // The run
+
+/// A line, put together from its end: a letter and up to four numbers.
+struct Line {
+    text: [u8; Self::ROOM],
+    start: usize,
+}
+
+impl Line {
+    const ROOM: usize = 2 + 4 * 21;
+
+    fn new() -> Self {
+        Self { text: [b'\n'; Self::ROOM], start: Self::ROOM - 1 }
+    }
+
+    fn put(&mut self, byte: u8) {
+        self.start -= 1;
+        self.text[self.start] = byte;
+    }
+
+    fn put_number(&mut self, number: u64) {
+        let mut rest = number;
+        loop {
+            self.put(b'0' + (rest % 10) as u8);
+            rest /= 10;
+            if rest == 0 {
+                break;
+            }
+        }
+        self.put(b' ');
+    }
+}
 
 /// The lines printed.
 #[derive(Default)]
@@ -680,32 +711,18 @@ struct Report {
 }
 
 impl Report {
-    fn line(&mut self, letter: u8, numbers: &[u64]) {
-        self.text.push(letter);
-        for &number in numbers {
-            self.text.push(b' ');
-            self.number(number);
+    fn line<const COUNT: usize>(&mut self, letter: u8, numbers: [u64; COUNT]) {
+        const { assert!(COUNT <= 4) };
+        let mut line = Line::new();
+        for number in numbers.into_iter().rev() {
+            line.put_number(number);
         }
-        self.text.push(b'\n');
-    }
-
-    fn number(&mut self, number: u64) {
-        let mut digits = [b'0'; 20];
-        let mut rest = number;
-        let mut length = 0;
-        for digit in digits.iter_mut().rev() {
-            *digit = b'0' + (rest % 10) as u8;
-            rest /= 10;
-            length += 1;
-            if rest == 0 {
-                break;
-            }
-        }
-        self.text.extend_from_slice(&digits[digits.len() - length..]);
+        line.put(letter);
+        self.text.extend_from_slice(&line.text[line.start..]);
     }
 
     fn refused(&mut self, place: usize, refusal: Refusal) {
-        self.line(b'R', &[place as u64, refusal as u64]);
+        self.line(b'R', [place as u64, refusal as u64]);
     }
 }
 
