@@ -143,7 +143,14 @@ impl<'a> Desk<'a> {
             Record::OpenBilling { month, percentage } => {
                 self.accounts.open_billing(month, percentage)?
             }
-            Record::OpenBook { marks, sale } => self.open_book(Tariff { marks, sale })?,
+            Record::OpenBook {
+                working,
+                weekend,
+                sale,
+            } => {
+                let marks = [*working, *weekend];
+                self.open_book(Tariff { marks, sale })?
+            }
             Record::MonthPrice(price) => self.set_month_price(price)?,
             Record::HourPrices(bytes) => self.set_hour_prices(price_list(heap, bytes)?)?,
             Record::Reading { import, export } => self.read(Reading { import, export })?,

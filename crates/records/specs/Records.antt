@@ -76,7 +76,7 @@ decoded k p =
 abbrev pub record_model : Record → Rec
 record_model (OpenMetering month power period) = opens_metering month power period
 record_model (OpenBilling month percentage) = opens_billing month percentage
-record_model (OpenBook marks sale) = opens_book marks sale
+record_model (OpenBook working weekend sale) = opens_book (working.now ∷ weekend.now ∷ []) sale
 record_model (MonthPrice price) = gives_month_price price
 record_model (HourPrices bytes) = gives_hour_prices (prices_read bytes.now)
 record_model (Reading import export) = reading import export

@@ -5,7 +5,7 @@ ghost use Rattle.records.specs.Records.{decoded, decoded_billing, decoded_book, 
 use crate::prices::price_of;
 use faults::ProgramFault;
 
-// What a record says. The hour prices stay as they stand in the payload, four bytes each.
+// What a record says. Zone marks and hour prices stay as they stand in the payload, so that a record is small: most are readings.
 #[derive(Clone, Copy)]
 pub enum Record<'a> {
     OpenMetering {
@@ -18,7 +18,8 @@ pub enum Record<'a> {
         percentage: u8,
     },
     OpenBook {
-        marks: [[u8; 24]; 2],
+        working: &'a [u8; 24],
+        weekend: &'a [u8; 24],
         sale: [u32; 3],
     },
     MonthPrice(i32),
@@ -90,7 +91,8 @@ fn book(payload: &[u8]) -> Result<Record<'_>, ProgramFault>
         .ok_or(ProgramFault::Malformed)?;
     let sale = sale_prices(prices).ok_or(ProgramFault::Malformed)?;
     Ok(Record::OpenBook {
-        marks: [*working, *weekend],
+        working,
+        weekend,
         sale,
     })
 }

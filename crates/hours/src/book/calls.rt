@@ -98,13 +98,15 @@ impl Tally {
         }
     }
 
-    // An hour of `zone` more, which took energy at the sale price or gave it at `rate`.
-    fn with_hour(mut self, zone: Zone, balance: Balance, sale: u32, rate: u32) -> Self
-        requires room { self.hours < 745 }
+    // Joins an hour of `zone`, which took energy at the sale price or gave it at `rate`. In place: a reading is to cost no copy of
+    // the tally.
+    fn add_hour(&mut self, zone: Zone, balance: Balance, sale: u32, rate: u32)
+        requires room { self.old.hours < 745 }
         requires energy { balance.taken + balance.given ≤ 100000 }
         requires sale { sale ≤ 1000000 }
         requires rate { rate ≤ 1000000 }
-        ensures { result ≡ grown (zone_number zone) balance.taken balance.given sale rate self }
+        ensures value { self.new ≡ grown (zone_number zone) balance.taken balance.given sale rate self.old }
+        ensures bounded { Bounded self.new.hours self.new.totals }
     {
         let at = zone as usize;
         self.hours += 1;
@@ -112,7 +114,6 @@ impl Tally {
         self.totals.export[at] += balance.given;
         self.totals.charge += amount(balance.taken, sale);
         self.totals.value += amount(balance.given, rate);
-        self
     }
 }
 
@@ -144,46 +145,50 @@ impl Book {
         })
     }
 
-    // The tally with the hour `hour` joined, whose import and export are in range; what it gives is paid at `rate`.
-    fn join(&self, hour: Hour, reading: Reading, rate: u32) -> Tally
-        requires hour { Some hour ≡ hour_of self.now.terms.month.number self.now.tally.hours }
+    // Joins the hour `hour`, whose import and export are in range; what it gives is paid at `rate`.
+    fn join(&mut self, hour: Hour, reading: Reading, rate: u32)
+        requires hour { Some hour ≡ hour_of self.old.terms.month.number self.old.tally.hours }
+        requires room { self.old.tally.hours < hours_of self.old.terms }
         requires clock { hour.clock < 24 }
         requires import { reading.import ≤ 100000 }
         requires export { reading.export ≤ 100000 }
         requires rate { rate ≤ 1000000 }
-        ensures value { result ≡ joined_at self.now.terms self.now.tally reading.import reading.export rate }
-        ensures begun { result.hours ≤ hours_of self.now.terms }
+        ensures terms { self.new.terms ≡ self.old.terms }
+        ensures tally { self.new.tally ≡ joined_at self.old.terms self.old.tally reading.import reading.export rate }
     {
         let zone = self.terms.zone_of(hour);
         let sale = self.terms.sale[zone as usize];
-        self.tally.with_hour(zone, reading.balance(), sale, rate)
+        self.tally.add_hour(zone, reading.balance(), sale, rate);
     }
 
-    // The tally after a reading. The source is asked only where the hour can be read and its export is larger.
-    fn next_tally<S: PriceSource>(
-        &self,
+    // Reads the next hour. The source is asked only where the hour can be read and its export is larger.
+    fn read_next<S: PriceSource>(
+        &mut self,
         reading: Reading,
         source: &mut S,
-    ) -> Result<Tally, BookFault>
-        ensures value { result ≡ next_reading S.PriceSource source.old self.now.terms self.now.tally reading.import reading.export }
-        ensures begun { IfOk result (λ y. y.hours ≤ hours_of self.now.terms) }
-        ensures bounded { Bounded self.now.tally.hours self.now.tally.totals }
-        ensures asked { S.PriceSource.state source.new ≡ next_state S.PriceSource source.old self.now.terms self.now.tally reading.import reading.export }
+    ) -> Result<(), BookFault>
+        ensures answer { result ≡ answer (next_reading S.PriceSource source.old self.old.terms self.old.tally reading.import reading.export) }
+        ensures terms { self.new.terms ≡ self.old.terms }
+        ensures tally { self.new.tally ≡ after self.old.tally (next_reading S.PriceSource source.old self.old.terms self.old.tally reading.import reading.export) }
+        ensures bounded { Bounded self.old.tally.hours self.old.tally.totals }
+        ensures asked { S.PriceSource.state source.new ≡ next_state S.PriceSource source.old self.old.terms self.old.tally reading.import reading.export }
     {
-        let hours = self.tally.hours;
         if reading.import > 100_000 || reading.export > 100_000 {
             return Err(BookFault::ReadingTooLarge);
         }
+        let hours = self.tally.hours;
         let Some(hour) = self.terms.month.hour_at(hours) else {
             return Err(BookFault::BookComplete);
         };
         if reading.export <= reading.import {
-            return Ok(self.join(hour, reading, 0));
+            self.join(hour, reading, 0);
+            return Ok(());
         }
         let Some(price) = source.ask(self.terms.month.number(), hours) else {
             return Err(BookFault::NoPrice);
         };
-        Ok(self.join(hour, reading, rate_of(price)))
+        self.join(hour, reading, rate_of(price));
+        Ok(())
     }
 
     // Reads the next hour.
@@ -198,9 +203,7 @@ impl Book {
         ensures asked { S.PriceSource.state source.new ≡ next_state S.PriceSource source.old self.old.terms self.old.tally reading.import reading.export }
         ensures history { ReadsOn self.old.terms self.old.tally (next_hour S.PriceSource source.old self.old.terms self.old.tally reading.import reading.export) result self.new.tally }
     {
-        let tally = self.next_tally(reading, source)?;
-        self.tally = tally;
-        Ok(())
+        self.read_next(reading, source)
     }
 
     // The sums of a complete book; a book with hours missing is handed back.
