@@ -45,7 +45,7 @@ impl<'a> Rows<'a> {
         requires { rises 0 month (map plain (held self.old)) ≡ true }
         ensures kept { held self.new ≡ staying K.Kind month (held self.old) }
         ensures fewer { self.new.filled ≤ self.old.filled }
-        ensures rest { drop self.old.filled self.new.slots.now ≡ drop self.old.filled self.old.slots.now }
+        ensures rest { drop self.new.filled self.new.slots.now ≡ drop self.new.filled self.old.slots.now }
         ensures long { length self.new.slots.now ≡ length self.old.slots.now }
         ensures refunded { result.refunded ≡ refunds_in K.Kind month (held self.old) }
         ensures lost { result.lost ≡ losses_in K.Kind month (held self.old) }
