@@ -1,8 +1,8 @@
 -- What draws one after the other do to the slots.
-use Rattle.std.proofs.Common.{◌≡◌, ℕ, max, drop, ◌∙◌, subst, arith}
+use Rattle.std.proofs.Common.{◌≡◌, ℕ, drop, sym, ◌∙◌, subst, arith}
 use Rattle.portions.specs.declared.Kind.{Ghosts}
 use Rattle.store.specs.declared.Store.{Store}
-use Rattle.store.specs.Held.{lent, in_use}
+use Rattle.store.specs.Held.{lent}
 use Rattle.settlement.specs.declared.zones.Zones.{Zones}
 use Rattle.accounts.specs.Means.{EnergyStore}
 use Rattle.accounts.specs.Slots.{Drawn, EachDrawn}
@@ -11,11 +11,9 @@ then_drawn : {K T : Type 0} {k : Ghosts K T} (s t u : Store K T k) → Drawn s t
 then_drawn s t u d e =
     let a = d.accounted in
     let b = e.accounted in
-    let first : max (in_use s) (in_use t) ≡ max (in_use s) (in_use u) = omega (arith, d.same_use, e.same_use) in
-    let second : max (in_use t) (in_use u) ≡ max (in_use s) (in_use u) = omega (arith, d.same_use, e.same_use) in
     record {
       accounted = record {
-        others = subst (λ n. drop n (lent u) ≡ drop n (lent t)) second b.others ∙ subst (λ n. drop n (lent t) ≡ drop n (lent s)) first a.others;
+        others = b.others ∙ subst (λ n. drop n (lent t) ≡ drop n (lent s)) (sym e.same_use) a.others;
         refused = λ h. let z : ◌≡◌ {A = ℕ} 0 1 = cc in absurd (omega arith);
         same_room = b.same_room ∙ a.same_room;
         lender = b.lender ∙ a.lender;

@@ -14,6 +14,7 @@ energy_kind = record {
   life = 12;
   means = λ p. record { month = p.stock.month; entered = p.stock.entered; left = p.stock.left; terms = p.terms };
   term = λ s. tt;
+  kept = λ t. 0;
   refund = λ p. 0;
 }
 
@@ -23,6 +24,7 @@ deposit_kind = record {
   life = 12;
   means = λ p. record { month = p.stock.month; entered = p.stock.entered; left = p.stock.left; terms = p.terms };
   term = λ s. s.terms;
+  kept = λ t. t;
   refund = λ p. min p.terms p.left;
 }
 

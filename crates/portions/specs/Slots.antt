@@ -15,3 +15,7 @@ reads t s = record {
 -- the same with the slot's own number as its terms
 abbrev pub plain : Slot → Portion ℕ
 plain s = reads (λ r. r.terms) s
+
+-- the slot that a portion is kept as, with its terms as the number n keeps for them
+abbrev pub row_of : {T : Type 0} → (T → ℕ) → Portion T → Slot
+row_of n p = record { month = p.month; entered = p.entered; left = p.left; terms = n p.terms }

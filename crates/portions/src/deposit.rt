@@ -13,6 +13,8 @@ impl Terms for u32 {
 
     ghost meant = { λ number. number };
 
+    ghost kept = { λ «cap». «cap» };
+
     ghost refund = { λ «cap» left. min «cap» left };
 
     ghost lasting = { Prim.search rules };

@@ -12,6 +12,8 @@ impl Terms for () {
 
     ghost meant = { λ _. tt };
 
+    ghost kept = { λ _. 0 };
+
     ghost refund = { λ _ _. 0 };
 
     ghost lasting = { Prim.search rules };

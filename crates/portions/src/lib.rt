@@ -4,7 +4,7 @@
 ghost use Rattle.std.specs.Prelude.{◌≡◌, ℕ, ◌-◌, ◌≤◌, min};
 ghost use Rattle.portions.specs.declared.Slot.{Slot};
 ghost use Rattle.portions.specs.Portions.{Portion, less};
-ghost use Rattle.portions.specs.Slots.{reads};
+ghost use Rattle.portions.specs.Slots.{reads, row_of};
 ghost use Rattle.portions.specs.Made.{answered, made};
 
 use faults::StoreFault;
@@ -43,9 +43,6 @@ pub trait Kind: Copy {
     type Terms: Copy;
 
     // How many months after its own a portion is open, 1 to 15.
-    const LIFE: u16;
-
-    // The same as a number of the contracts.
     ghost life: { ℕ };
 
     // The portion that a value means.
@@ -54,10 +51,13 @@ pub trait Kind: Copy {
     // The terms of the portion in a slot.
     ghost term: { Slot → Self.Terms };
 
+    // The number that a slot keeps for the terms.
+    ghost kept: { Self.Terms → ℕ };
+
     // How much of what is left at a portion's end is refunded; the rest is lost.
     ghost refund: { Portion Self.Terms → ℕ };
 
-    // The life, as a number of months.
+    // The life.
     fn months() -> u16
         ensures { result ≡ life };
 
@@ -69,9 +69,10 @@ pub trait Kind: Copy {
     fn of(slot: &Slot) -> Self
         ensures { means result ≡ reads term slot.now };
 
-    // A slot that holds the portion.
+    // The slot that the portion is kept as: it holds the portion, and its numbers are the portion's own.
     fn row(&self) -> Slot
-        ensures { reads term result ≡ means self.now };
+        ensures holds { reads term result ≡ means self.now }
+        ensures numbers { result ≡ row_of kept (means self.now) };
 
     // The month.
     fn month(&self) -> u16

@@ -16,6 +16,9 @@ pub trait Terms: Copy {
     // The terms that a slot's number means.
     ghost meant: { ℕ → Self };
 
+    // The number that a slot keeps for the terms.
+    ghost kept: { Self → ℕ };
+
     // How much of what is left is refunded.
     ghost refund: { Self → ℕ → ℕ };
 
@@ -23,9 +26,10 @@ pub trait Terms: Copy {
     fn of(number: u32) -> Self
         ensures { result ≡ meant number };
 
-    // A number that means the terms.
+    // The number that a slot keeps for the terms, which means them.
     fn number(self) -> u32
-        ensures { meant result ≡ self };
+        ensures value { result ≡ kept self }
+        ensures back { meant result ≡ self };
 
     // How much of what is left is refunded.
     fn refund(self, left: u32) -> u32
@@ -50,13 +54,13 @@ pub struct Termed<T> {
 impl<T: Terms> Kind for Termed<T> {
     type Terms = T;
 
-    const LIFE: u16 = T::LIFE;
-
     ghost life = { T.LIFE };
 
     ghost means = { λ p. record { month = p.stock.month; entered = p.stock.entered; left = p.stock.left; terms = p.terms } };
 
     ghost term = { λ s. T.meant s.terms };
+
+    ghost kept = { T.kept };
 
     ghost refund = { λ p. T.refund p.terms p.left };
 

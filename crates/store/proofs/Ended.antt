@@ -1,8 +1,8 @@
 -- The rows after a turn: those past their life are moved over.
-use Rattle.std.proofs.Common.{◌≡◌, ℕ, ◌+◌, ◌-◌, ◌≤◌, Bool, true, false, cond, List, [], ◌∷◌, map, length, take, drop, filter, zero-add, sym, refl, ap, ◌∙◌, arith}
+use Rattle.std.proofs.Common.{◌≡◌, ℕ, ◌+◌, ◌-◌, ◌≤◌, Bool, true, false, cond, List, [], ◌∷◌, map, length, take, drop, filter, zero-add, sym, refl, ap, subst, ◌∙◌, arith}
 use Rattle.std.specs.List.{copy_within}
 use Rattle.std.proofs.Math.Seq.{paste}
-use Rattle.std.proofs.lemmas.List.{drop-take, drop-drop, length-drop, length-take-le}
+use Rattle.std.proofs.lemmas.List.{drop-take, length-drop, length-take-le}
 use Rattle.std.proofs.lemmas.List.Edits.{take-paste, drop-paste}
 use Rattle.portions.specs.Sums.{total}
 use Rattle.portions.specs.declared.Slot.{Slot}
@@ -23,16 +23,14 @@ shifted xs n m le =
     ap (λ k. take k (paste xs 0 (drop n xs) m)) (sym (zero-add m)) ∙ take-paste xs 0 (drop n xs) m (omega arith) (omega (arith, l, le)) ∙ sym (drop-take n m xs)
 
 -- and the elements after them
-pub shifted_rest : {X : Type 0} (xs : List X) (n m : ℕ) → n + m ≤ length xs → drop (n + m) (paste xs 0 (drop n xs) m) ≡ drop (n + m) xs
+pub shifted_rest : {X : Type 0} (xs : List X) (n m : ℕ) → n + m ≤ length xs → drop m (paste xs 0 (drop n xs) m) ≡ drop m xs
 shifted_rest xs n m le =
     let l = length-drop n xs in
-    let ys = paste xs 0 (drop n xs) m in
-    let e : n + m ≡ 0 + m + n = omega arith in
-    rw e (sym (drop-drop n (0 + m) ys) ∙ ap (drop n) (drop-paste xs 0 (drop n xs) m (omega arith) (omega (arith, l, le))) ∙ drop-drop n (0 + m) xs)
+    subst (λ k. drop k (paste xs 0 (drop n xs) m) ≡ drop k xs) (zero-add m) (drop-paste xs 0 (drop n xs) m (omega arith) (omega (arith, l, le)))
 
 -- the rows that end were the first n of the f in use
 pub moved : {K T : Type 0} (k : Ghosts K T) (xs ys rows : List Slot) (n f life m : ℕ) → rows ≡ take f xs → f ≤ length xs → n ≤ length rows → life ≡ k.life →
-    drop n rows ≡ filter (λ row. stays_in life m (plain row)) rows → ys ≡ copy_within xs n f 0 → (take (f - n) ys ≡ staying k m (take f xs)) × (drop f ys ≡ drop f xs)
+    drop n rows ≡ filter (λ row. stays_in life m (plain row)) rows → ys ≡ copy_within xs n f 0 → (take (f - n) ys ≡ staying k m (take f xs)) × (drop (f - n) ys ≡ drop (f - n) xs)
 moved k xs ys rows n f life m is within few lasts stay after =
     let l = length-take-le f xs within in
     let h = ap length is in
@@ -40,7 +38,7 @@ moved k xs ys rows n f life m is within few lasts stay after =
     let le : n + (f - n) ≤ length xs = omega arith in (
       ap (take (f - n)) after ∙ shifted xs n (f - n) le ∙ ap (λ j. drop n (take j xs)) e ∙ ap (drop n) (sym is) ∙ stay ∙
           ap (λ y. filter (λ row. stays_in y m (plain row)) rows) lasts ∙ ap (staying k m) is,
-      ap (drop f) after ∙ ap (λ j. drop j (paste xs 0 (drop n xs) (f - n))) (sym e) ∙ shifted_rest xs n (f - n) le ∙ ap (λ j. drop j xs) e,
+      ap (drop (f - n)) after ∙ shifted_rest xs n (f - n) le,
     )
 
 pub first_ended : {K T : Type 0} (k : Ghosts K T) (xs rows : List Slot) (n life m : ℕ) → rows ≡ xs → life ≡ k.life →

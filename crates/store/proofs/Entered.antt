@@ -1,5 +1,5 @@
 -- A store after an accepted enter: one more row is in use.
-use Rattle.std.proofs.Common.{◌≡◌, ℕ, ◌+◌, ◌-◌, ◌*◌, ◌<◌, ◌≤◌, true, false, List, [], ◌∷◌, ◌++◌, map, length, take, set, None, sym, ap, ◌∙◌, arith}
+use Rattle.std.proofs.Common.{◌≡◌, ℕ, ◌+◌, ◌-◌, ◌*◌, ◌<◌, ◌≤◌, true, false, List, [], ◌∷◌, ◌++◌, map, length, take, set, None, sym, ap, subst, ◌∙◌, arith}
 use Rattle.std.proofs.lemmas.List.{take_more_set, map_push, length-map, length-take-le, length-set}
 use Rattle.portions.specs.declared.Slot.{Slot}
 use Rattle.portions.specs.declared.Kind.{Ghosts}
@@ -17,8 +17,10 @@ use Rattle.store.specs.Held.{held, lent, room, in_use}
 use Rattle.store.specs.Counting.{more_entered}
 use Rattle.store.specs.Reading.{kind_of, ledger_of}
 use Rattle.store.specs.Sound.{Sound, rises, due, kept, span}
+use Rattle.store.specs.Exact.{kept_anew, Exact}
 use Rattle.store.proofs.Rise.{rises_length, rises_free, rises_push, has_push, has_plain, open_span}
 use Rattle.store.proofs.Parts.{parts}
+use Rattle.store.proofs.Exact.{exact_push}
 use Rattle.store.proofs.Read.{read_off}
 
 due_push : {T : Type 0} (m a n : ℕ) (ps : List (Portion T)) (q : Portion T) → q.month ≡ m → a ≤ 100000000 → has m ps ≡ false →
@@ -57,6 +59,11 @@ module _ {K T : Type 0} {k : Ghosts K T} (s : Store K T k) (a : ℕ) (met : Ente
         let e = push (reads k.term) ∙ ap (λ p. map (reads k.term) (held s.rows) ++ p ∷ []) is in
         let state : read_off k rows' s.opened s.month totals' ≡ entering a t (ledger_of k s) = simp (o, e, counted) in
         state ∙ ap (λ x. becomes x (entering a t (ledger_of k s)) (ledger_of k s)) (sym none)
+
+    pub entered_clean : kept_anew k row ≡ row → Exact k (held rows')
+    entered_clean exact =
+        let e = ap (λ n. take n rows'.slots.now) more ∙ ap (take (in_use s + 1)) written ∙ take_more_set (lent s) (in_use s) row row_free in
+        subst (Exact k) (sym e) (exact_push k (held s.rows) row s.clean exact)
 
     pub entered_sound : (totals' : Totals) → totals' ≡ more_entered s.totals a → Sound k.life rows' s.opened s.month totals'
     entered_sound totals' counted =

@@ -1,6 +1,7 @@
 pub mod Parts
 pub mod Rise
 mod Rising
+mod Exact
 pub mod Lawful
 mod Read
 mod Accepted

@@ -1,6 +1,7 @@
 pub mod Held
 pub mod Reading
 pub mod Sound
+pub mod Exact
 pub mod Slots
 pub mod Ending
 pub mod Counting

@@ -1,13 +1,13 @@
 -- What a call does to the slots.
-use Rattle.std.specs.Prelude.{◌≡◌, max, Bool, false, drop}
+use Rattle.std.specs.Prelude.{◌≡◌, Bool, false, drop}
 use Rattle.portions.specs.declared.Kind.{Ghosts}
 use Rattle.store.specs.declared.Store.{Store}
 use Rattle.store.specs.Held.{lent, room, in_use}
 
--- every slot is accounted for, from the store s before a call to s' after it: those in use hold the portions told, and
+-- every slot is accounted for, from the store s before a call to s' after it: those in use then hold the portions told, and
 pub record Accounted {K T : Type 0} {k : Ghosts K T} (accepted : Bool) (s s' : Store K T k) : Type 0 where
-  -- those in use neither before nor after are as they were
-  pub others : drop (max (in_use s) (in_use s')) (lent s') ≡ drop (max (in_use s) (in_use s')) (lent s)
+  -- all others are as they were, those too that the call took out of use
+  pub others : drop (in_use s') (lent s') ≡ drop (in_use s') (lent s)
   -- a refused call leaves every slot as it was
   pub refused : accepted ≡ false → lent s' ≡ lent s
   -- there are as many as before, and they are still the lender's

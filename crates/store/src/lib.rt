@@ -2,6 +2,7 @@
 #![tactic(auto)]
 
 ghost use Rattle.store.specs.Sound.{Sound};
+ghost use Rattle.store.specs.Exact.{Clean};
 
 use portions::Kind;
 use rows::Rows;
@@ -25,4 +26,5 @@ pub struct Store<'a, K: Kind> {
     month: u16,
     totals: Totals,
     ghost sound: { Sound K.Kind.life rows opened month totals },
+    ghost clean: { Clean K.Kind rows },
 }

@@ -6,6 +6,7 @@ ghost use Rattle.portions.specs.Listed.{listed};
 ghost use Rattle.store.specs.Held.{held};
 ghost use Rattle.store.specs.Sound.{rises};
 ghost use Rattle.store.specs.Ending.{staying, refunds_in, losses_in};
+ghost use Rattle.store.specs.Exact.{Exact};
 
 use crate::rows::Rows;
 use crate::rows::passes::{Ended, end_each, how_many_end, lefts, month_taken, take_each};
@@ -44,7 +45,7 @@ impl<'a> Rows<'a> {
         requires { rises 0 month (map plain (held self.old)) ≡ true }
         ensures kept { held self.new ≡ staying K.Kind month (held self.old) }
         ensures fewer { self.new.filled ≤ self.old.filled }
-        ensures rest { drop self.old.filled self.new.slots.now ≡ drop self.old.filled self.old.slots.now }
+        ensures rest { drop self.new.filled self.new.slots.now ≡ drop self.new.filled self.old.slots.now }
         ensures long { length self.new.slots.now ≡ length self.old.slots.now }
         ensures refunded { result.refunded ≡ refunds_in K.Kind month (held self.old) }
         ensures lost { result.lost ≡ losses_in K.Kind month (held self.old) }
@@ -70,6 +71,7 @@ impl<'a> Rows<'a> {
     pub(crate) fn take_each<K: Kind>(&mut self, takings: &Amounts)
         requires { length (listed takings.now) ≡ self.old.filled }
         ensures front { map (reads K.Kind.term) (held self.new) ≡ taking (listed takings.now) (map (reads K.Kind.term) (held self.old)) }
+        ensures exact { Exact K.Kind (held self.old) → Exact K.Kind (held self.new) }
         ensures rest { drop self.old.filled self.new.slots.now ≡ drop self.old.filled self.old.slots.now }
         ensures long { length self.new.slots.now ≡ length self.old.slots.now }
         ensures filled { self.new.filled ≡ self.old.filled }

@@ -7,6 +7,7 @@ ghost use Rattle.portions.specs.Portions.{less};
 ghost use Rattle.portions.specs.Listed.{listed};
 ghost use Rattle.store.specs.Sound.{rises};
 ghost use Rattle.store.specs.Ending.{refund_in, loss_in};
+ghost use Rattle.store.specs.Exact.{kept_anew, Exact};
 
 use portions::amounts::Amounts;
 use portions::{Kind, Slot};
@@ -72,7 +73,8 @@ pub(super) fn lefts<K: Kind>(rows: &[Slot]) -> Amounts
 
 // A row from which n was taken.
 fn taken<K: Kind>(row: &Slot, n: u32) -> Slot
-    ensures { reads K.Kind.term result ≡ less (reads K.Kind.term row.now) n }
+    ensures holds { reads K.Kind.term result ≡ less (reads K.Kind.term row.now) n }
+    ensures exact { kept_anew K.Kind result ≡ result }
 {
     let mut p = K::of(row);
     let _ = p.take(n);
@@ -82,7 +84,8 @@ fn taken<K: Kind>(row: &Slot, n: u32) -> Slot
 // Takes from each row.
 pub(super) fn take_each<K: Kind>(rows: &mut [Slot], takings: &[u32])
     requires { length takings.now ≡ length rows.old }
-    ensures { map (reads K.Kind.term) rows.new ≡ taking takings.now (map (reads K.Kind.term) rows.old) }
+    ensures each { map (reads K.Kind.term) rows.new ≡ taking takings.now (map (reads K.Kind.term) rows.old) }
+    ensures exact { Exact K.Kind rows.old → Exact K.Kind rows.new }
 {
     // By place: of what a loop over `iter_mut().zip(..)` writes a proof knows nothing afterwards.
     for (i, n) in takings.iter().enumerate() {

@@ -24,6 +24,7 @@ invariant_of-self g c =
     record {
       sound =
           drawn_sound s gives (lawful_rule gives (rule.sized r) (rule.bounded r) (rule.full r)) c.args.wanted _ gave _ c.total-sum.ensures c.take_each.new.self e.front e.long _ c.add_used.ensures;
+      clean = e.exact s.clean;
     }
 
 pub returns-clause-promised : goal.returns-clause-promised

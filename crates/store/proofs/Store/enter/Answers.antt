@@ -1,10 +1,11 @@
-use Rattle.std.proofs.Common.{◌∙◌, Ok, arith, rules}
+use Rattle.std.proofs.Common.{sym, ap, ◌∙◌, Ok, arith, rules}
+use Rattle.portions.specs.Slots.{row_of}
 use Rattle.ledger.proofs.Asked.{enter_met}
 use Rattle.ledger.proofs.Keeps.{keeps_enter}
 use Rattle.store.specs.Reading.{kind_of, ledger_of}
 use Rattle.store.proofs.Lawful.{lawful}
 use Rattle.store.proofs.Accepted.{accepted, given}
-use Rattle.store.proofs.Entered.{in_life, row_free, entered_sound, entered_after}
+use Rattle.store.proofs.Entered.{in_life, row_free, entered_sound, entered_clean, entered_after}
 use Rattle.store.proofs.Store.enter.Goals as goal
 
 pub returns-in_err-portion-clause-promised : goal.returns-in_err-portion-clause-promised
@@ -28,7 +29,11 @@ invariant_of-self g c =
     let yes = c.in_ok-portion.ensures in
     let met = enter_met c.args.amount (ledger_of g.K.Kind s) (accepted _ _ _ yes) in
     let e = c.push.ensures in
-    record { sound = entered_sound s c.args.amount met c.args.terms _ (c.row.ensures ∙ given _ _ _ yes) c.push.new.self e.slots e.filled _ c.add_entered.ensures }
+    let is = c.row.ensures.holds ∙ given _ _ _ yes in
+    record {
+      sound = entered_sound s c.args.amount met c.args.terms _ is c.push.new.self e.slots e.filled _ c.add_entered.ensures;
+      clean = entered_clean s c.args.amount met c.args.terms _ is c.push.new.self e.slots e.filled (ap (row_of g.K.Kind.kept) c.row.ensures.holds ∙ sym c.row.ensures.numbers);
+    }
 
 pub returns-clause-promised : goal.returns-clause-promised
 returns-clause-promised g c =
@@ -38,5 +43,5 @@ returns-clause-promised g c =
     let yes = c.in_ok-portion.ensures in
     let none = accepted _ _ _ yes in
     let e = c.push.ensures in
-    let after = entered_after s c.args.amount (enter_met c.args.amount l none) c.args.terms _ (c.row.ensures ∙ given _ _ _ yes) c.push.new.self e.slots e.filled none _ c.add_entered.ensures in
+    let after = entered_after s c.args.amount (enter_met c.args.amount l none) c.args.terms _ (c.row.ensures.holds ∙ given _ _ _ yes) c.push.new.self e.slots e.filled none _ c.add_entered.ensures in
     keeps_enter (kind_of g.K.Kind) (lawful g.K.Kind laws.lasting laws.short laws.within) l _ c.args.amount c.args.terms (Ok tt) (search rules) after

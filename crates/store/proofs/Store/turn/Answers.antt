@@ -1,9 +1,12 @@
-use Rattle.std.proofs.Common.{rules}
+use Rattle.std.proofs.Common.{sym, subst, rules}
 use Rattle.ledger.proofs.Asked.{turn_met}
 use Rattle.ledger.proofs.Keeps.{keeps_turn}
+use Rattle.store.specs.Held.{held}
 use Rattle.store.specs.Reading.{kind_of, ledger_of}
+use Rattle.store.specs.Exact.{Exact}
 use Rattle.store.proofs.Lawful.{lawful}
 use Rattle.store.proofs.Accepted.{accepted}
+use Rattle.store.proofs.Exact.{exact_some}
 use Rattle.store.proofs.Turned.{turned_sound, turned_answer, turned_after}
 use Rattle.store.proofs.Store.turn.Goals as goal
 
@@ -16,7 +19,10 @@ pub invariant_of-self : goal.invariant_of-self
 invariant_of-self g c =
     let s = c.args.self.now in
     let e = c.end_by-ended.ensures in
-    record { sound = turned_sound s c.end_by-ended.new.self _ _ e.kept e.all (turn_met (ledger_of g.K.Kind s) (accepted _ _ _ c.in_ok-may_turn.ensures)) e.long _ c.add_ended.ensures }
+    record {
+      sound = turned_sound s c.end_by-ended.new.self _ _ e.kept e.all (turn_met (ledger_of g.K.Kind s) (accepted _ _ _ c.in_ok-may_turn.ensures)) e.long _ c.add_ended.ensures;
+      clean = subst (Exact g.K.Kind) (sym e.kept) (exact_some g.K.Kind _ (held s.rows) s.clean);
+    }
 
 pub returns : goal.returns
 returns g c =
