@@ -1,5 +1,5 @@
 -- What a refused record leaves.
-use Rattle.std.proofs.Common.{◌≡◌, ℕ, ◌⊎◌, List, Some, None, Ok, Err, Option, refl, ap, inl, inr, arith}
+use Rattle.std.proofs.Common.{◌≡◌, ℕ, ◌⊎◌, List, Some, None, Ok, Err, Option, sym, refl, ap, ◌∙◌, subst, inl, inr, arith}
 use Rattle.faults.specs.declared.AccountFault.{AccountFault}
 use Rattle.faults.specs.declared.BookFault.{BookFault}
 use Rattle.faults.specs.declared.ProgramFault.{ProgramFault}
@@ -119,6 +119,25 @@ finish_left (metered a) (Some b) fault e = complete_left (metered a) (λ sums. b
 finish_left (billed c) None fault e = inl refl
 finish_left (billed c) (Some b) fault e = complete_left (billed c) (λ sums. by_account_strikes _ _ _ _) b (finish_refusal b) fault e
 
+module _ (account : Account) (strikes : Strikes account) (b : BookState) (f : AccountFault) where
+  -- sums that the account refuses are struck
+  enter_struck : (sums : Option MonthSums) (fault : ProgramFault) → fault ≡ InAccount f → (enter_book sums account b).answer ≡ Err fault → Struck account fault (enter_book sums account b)
+  enter_struck (Some sums) fault is e = strikes sums fault e
+  enter_struck None fault is e = let z : ◌≡◌ {A = ℕ} 0 1 = cc in absurd (omega arith)
+
+  -- and those of a complete book; what a book refuses is no refusal of the account
+  complete_struck : (refusal : Option BookFault) (fault : ProgramFault) → fault ≡ InAccount f → (finish_complete refusal account b).answer ≡ Err fault → Struck account fault (finish_complete refusal account b)
+  complete_struck (Some g) fault is e = let z : ◌≡◌ {A = ℕ} 0 1 = cc in absurd (omega arith)
+  complete_struck None fault is e = enter_struck (book_sums b) fault is e
+
+-- what the account refuses of a finish is struck
+finish_struck : (account : Account) (book : Option BookState) (f : AccountFault) (fault : ProgramFault) → fault ≡ InAccount f → (finish_book (own_month account) account book).answer ≡ Err fault → Struck account fault (finish_book (own_month account) account book)
+finish_struck none book f fault is e = let z : ◌≡◌ {A = ℕ} 0 1 = cc in absurd (omega arith)
+finish_struck (metered a) None f fault is e = let z : ◌≡◌ {A = ℕ} 0 1 = cc in absurd (omega arith)
+finish_struck (metered a) (Some b) f fault is e = complete_struck (metered a) (λ sums. by_account_strikes _ _ _ _) b f (finish_refusal b) fault is e
+finish_struck (billed c) None f fault is e = let z : ◌≡◌ {A = ℕ} 0 1 = cc in absurd (omega arith)
+finish_struck (billed c) (Some b) f fault is e = complete_struck (billed c) (λ sums. by_account_strikes _ _ _ _) b f (finish_refusal b) fault is e
+
 -- nothing differs, or what was said is a finish and the book is gone
 abbrev LeftBy : State → Read → ProgramFault → Outcome State → Type 0
 LeftBy s said_by fault o = (o.after ≡ s) ⊎ ((said_by ≡ Ok finish) × Struck s.account fault o)
@@ -141,12 +160,23 @@ handled_left s (Ok finish) fault e = finish_left_by s fault _ (finish_left s.acc
 handled_left s (Ok settle) fault e = inl (account_leaves s _ (settling_leaves program_memory.lines s.account) fault e)
 handled_left s (Ok turn) fault e = inl (account_leaves s _ (turning_leaves s.account) fault e)
 
+-- a book whose sums were struck is gone
+entry_gone : (e : Entry) (fault : ProgramFault) → says e.bytes ≡ Ok finish → Struck e.before.account fault (outcome e) → BookGone e fault
+entry_gone e fault finishes struck = record { finishes = finishes; by_account = struck.refuses; account = struck.account; book = struck.book }
+
 -- the same of a record of the file
 entry_left : (e : Entry) (fault : ProgramFault) → LeftBy e.before (says e.bytes) fault (outcome e) → NothingDiffers e ⊎ BookGone e fault
 entry_left e fault (inl same) = inl same
-entry_left e fault (inr (finishes, struck)) = inr (record { finishes = finishes; by_account = struck.refuses; account = struck.account; book = struck.book })
+entry_left e fault (inr (finishes, struck)) = inr (entry_gone e fault finishes struck)
+
+-- where the account refuses the sums of a record of the file, their book is gone
+entry_struck : (e : Entry) (fault : ProgramFault) → (outcome e).answer ≡ Err fault → says e.bytes ≡ Ok finish → (f : AccountFault) → fault ≡ InAccount f → BookGone e fault
+entry_struck e fault refusal finishes f is =
+    let same : outcome e ≡ handled e.before (Ok finish) = ap (handled e.before) finishes in
+    let answer : (handled e.before (Ok finish)).answer ≡ Err fault = ap (λ (o : Outcome State). o.answer) (sym same) ∙ refusal in
+    entry_gone e fault finishes (subst (Struck e.before.account fault) (sym same) (finish_struck e.before.account e.before.book f fault is answer))
 
 -- a refused record prints its refusal line alone, and leaves what was there, but for sums that are struck
 pub refusals_alone : (input : List ℕ) → RefusedAlone input
 refusals_alone input earlier e follows fault refusal =
-    record { alone = ap (answer_text e.place) refusal; leaves = entry_left e fault (handled_left e.before (says e.bytes) fault refusal) }
+    record { alone = ap (answer_text e.place) refusal; leaves = entry_left e fault (handled_left e.before (says e.bytes) fault refusal); struck = entry_struck e fault refusal }

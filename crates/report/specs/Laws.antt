@@ -52,6 +52,8 @@ pub record BookGone (e : Entry) (fault : ProgramFault) : Type 0 where
 pub record Refused (e : Entry) (fault : ProgramFault) : Type 0 where
   pub alone : entry_text e ≡ refusal_text e.place (program_number fault)
   pub leaves : NothingDiffers e ⊎ BookGone e fault
+  -- sums that the account refuses are not kept in their book
+  pub struck : says e.bytes ≡ Ok finish → (f : AccountFault) → fault ≡ InAccount f → BookGone e fault
 
 -- every refused record of a run is so
 abbrev pub RefusedAlone : List ℕ → Type 0
