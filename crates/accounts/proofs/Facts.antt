@@ -39,16 +39,16 @@ module _ {K T : Type 0} (k : Ghosts K T) (s : Store K T k) where
   in_use_is = length-map (held s.rows) (reads k.term) ∙ length-take-le (in_use s) (lent s) s.rows.within
 
   -- at most life + 1 portions are open
-  pub few_open : length (ledger_of k s).portions ≤ k.life + 1
+  pub few_open : length (ledger_of k s).portions ≤ k.LIFE + 1
   few_open =
-      let few = rises_length (s.month + 1 - span k.life s.opened) (s.month + 1) (kept s.rows) (parts s).rising in
-      let long = span_most k.life s.opened in
+      let few = rises_length (s.month + 1 - span k.LIFE s.opened) (s.month + 1) (kept s.rows) (parts s).rising in
+      let long = span_most k.LIFE s.opened in
       omega (arith, long, few, length-map (held s.rows) plain, length-map (held s.rows) (reads k.term))
 
   -- no portion is of the month to come
   none_next : has (s.month + 1) (ledger_of k s).portions ≡ false
-  none_next = has_plain k.term (s.month + 1) (held s.rows) ∙ rises_below (s.month + 1 - span k.life s.opened) (s.month + 1) (kept s.rows) (parts s).rising
+  none_next = has_plain k.term (s.month + 1) (held s.rows) ∙ rises_below (s.month + 1 - span k.LIFE s.opened) (s.month + 1) (kept s.rows) (parts s).rising
 
   -- a store that has turned has no portion of its month
   pub turned_free : (s' : Store K T k) → ledger_of k s' ≡ turning (kind_of k) (ledger_of k s) → FreeIn (ledger_of k s')
-  turned_free s' is = subst (λ (l : Ledger T). FreeIn l) (sym is) (has_kept (s.month + 1) (stays_in k.life (s.month + 1)) (ledger_of k s).portions none_next)
+  turned_free s' is = subst (λ (l : Ledger T). FreeIn l) (sym is) (has_kept (s.month + 1) (stays_in k.LIFE (s.month + 1)) (ledger_of k s).portions none_next)

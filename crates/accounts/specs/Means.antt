@@ -11,7 +11,7 @@ use Rattle.settlement.specs.declared.zones.Zones.{Zones}
 -- the kind of energy, as the code has it
 abbrev pub energy_kind : Ghosts (Termed (Unit {0})) (Unit {0})
 energy_kind = record {
-  life = 12;
+  LIFE = 12;
   means = λ p. record { month = p.stock.month; entered = p.stock.entered; left = p.stock.left; terms = p.terms };
   term = λ s. tt;
   kept = λ t. 0;
@@ -21,7 +21,7 @@ energy_kind = record {
 -- the kind of deposits, as the code has it
 abbrev pub deposit_kind : Ghosts (Termed ℕ) ℕ
 deposit_kind = record {
-  life = 12;
+  LIFE = 12;
   means = λ p. record { month = p.stock.month; entered = p.stock.entered; left = p.stock.left; terms = p.terms };
   term = λ s. s.terms;
   kept = λ t. t;

@@ -45,7 +45,7 @@ pub(crate) fn month_in_range(month: u16) -> Result<(), AccountFault>
 
 // Opens a store that has the slots, for a month that can be.
 pub(crate) fn open_store<K: Kind>(store: &mut Store<K>, month: u16)
-    requires roomy { K.Kind.life < room store.old }
+    requires roomy { K.Kind.LIFE < room store.old }
     requires low { 47 ≤ month }
     requires high { month ≤ 1199 }
     ensures state { ledger_of K.Kind store.new ≡ opening month }

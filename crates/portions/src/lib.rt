@@ -43,7 +43,10 @@ pub trait Kind: Copy {
     type Terms: Copy;
 
     // How many months after its own a portion is open, 1 to 15.
-    ghost life: { ℕ };
+    const LIFE: u16;
+
+    // The same as a number of the contracts.
+    ghost LIFE: { ℕ };
 
     // The portion that a value means.
     ghost means: { Self → Portion Self.Terms };
@@ -56,10 +59,6 @@ pub trait Kind: Copy {
 
     // How much of what is left at a portion's end is refunded; the rest is lost.
     ghost refund: { Portion Self.Terms → ℕ };
-
-    // The life.
-    fn months() -> u16
-        ensures { result ≡ life };
 
     // A new portion, with all of its amount left.
     fn make(month: u16, amount: u32, terms: Self::Terms) -> Result<Self, StoreFault>
@@ -101,9 +100,9 @@ pub trait Kind: Copy {
         ensures lost { result.1 ≡ (means self).left - refund (means self) };
 
     // A life is from 1 to 15 months.
-    ghost lasting: { 1 ≤ life };
+    ghost lasting: { 1 ≤ LIFE };
 
-    ghost short: { life ≤ 15 };
+    ghost short: { LIFE ≤ 15 };
 
     // No more is refunded than is left.
     ghost within: { (p : Portion Self.Terms) → refund p ≤ p.left };

@@ -54,7 +54,9 @@ pub struct Termed<T> {
 impl<T: Terms> Kind for Termed<T> {
     type Terms = T;
 
-    ghost life = { T.LIFE };
+    const LIFE: u16 = T::LIFE;
+
+    ghost LIFE = { T.LIFE };
 
     ghost means = { λ p. record { month = p.stock.month; entered = p.stock.entered; left = p.stock.left; terms = p.terms } };
 
@@ -71,10 +73,6 @@ impl<T: Terms> Kind for Termed<T> {
     ghost within = { λ p. T.within p.terms p.left };
 
     ghost held = { Prim.search rules };
-
-    fn months() -> u16 {
-        T::LIFE
-    }
 
     fn make(month: u16, amount: u32, terms: T) -> Result<Termed<T>, StoreFault> {
         if amount > LARGEST_AMOUNT {

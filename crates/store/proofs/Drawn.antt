@@ -94,7 +94,7 @@ module _ {K T : Type 0} {k : Ghosts K T} (s : Store K T k) (rule : Rule) (law : 
     same_has =
         sym (has_plain k.term s.month (held rows')) ∙ ap (has s.month) front ∙ drawn_has s.month (map (reads k.term) (held s.rows)) ns ∙ has_plain k.term s.month (held s.rows)
 
-    pub drawn_sound : length rows'.slots.now ≡ room s → (totals' : Totals) → totals' ≡ more_used s.totals n → Sound k.life rows' s.opened s.month totals'
+    pub drawn_sound : length rows'.slots.now ≡ room s → (totals' : Totals) → totals' ≡ more_used s.totals n → Sound k.LIFE rows' s.opened s.month totals'
     drawn_sound long totals' counted =
         rw counted (
           (omega (arith, long, (parts s).roomy), same_rises _ _ ∙ (parts s).rising),

@@ -29,7 +29,7 @@ shifted_rest xs n m le =
     subst (λ k. drop k (paste xs 0 (drop n xs) m) ≡ drop k xs) (zero-add m) (drop-paste xs 0 (drop n xs) m (omega arith) (omega (arith, l, le)))
 
 -- the rows that end were the first n of the f in use
-pub moved : {K T : Type 0} (k : Ghosts K T) (xs ys rows : List Slot) (n f life m : ℕ) → rows ≡ take f xs → f ≤ length xs → n ≤ length rows → life ≡ k.life →
+pub moved : {K T : Type 0} (k : Ghosts K T) (xs ys rows : List Slot) (n f life m : ℕ) → rows ≡ take f xs → f ≤ length xs → n ≤ length rows → life ≡ k.LIFE →
     drop n rows ≡ filter (λ row. stays_in life m (plain row)) rows → ys ≡ copy_within xs n f 0 → (take (f - n) ys ≡ staying k m (take f xs)) × (drop (f - n) ys ≡ drop (f - n) xs)
 moved k xs ys rows n f life m is within few lasts stay after =
     let l = length-take-le f xs within in
@@ -41,7 +41,7 @@ moved k xs ys rows n f life m is within few lasts stay after =
       ap (drop (f - n)) after ∙ shifted_rest xs n (f - n) le,
     )
 
-pub first_ended : {K T : Type 0} (k : Ghosts K T) (xs rows : List Slot) (n life m : ℕ) → rows ≡ xs → life ≡ k.life →
+pub first_ended : {K T : Type 0} (k : Ghosts K T) (xs rows : List Slot) (n life m : ℕ) → rows ≡ xs → life ≡ k.LIFE →
     take n rows ≡ filter (λ row. ends_by life m (plain row)) rows → take n rows ≡ ending k m xs
 first_ended k xs rows n life m is lasts end = end ∙ ap (λ y. filter (λ row. ends_by y m (plain row)) rows) lasts ∙ ap (ending k m) is
 
@@ -54,18 +54,18 @@ kept_by_map q g (x ∷ xs) =
 
 module _ {K T : Type 0} (k : Ghosts K T) (m : ℕ) (ss : List Slot) where
   -- the refunds and the losses over the rows are those of the portions
-  pub refunds_rows : refunds_in k m ss ≡ total k.refund (filter (ends_by k.life m) (map (reads k.term) ss))
-  refunds_rows = sym (ap (total k.refund) (kept_by_map (ends_by k.life m) (reads k.term) ss) ∙ total_map k.refund (reads k.term) (ending k m ss))
+  pub refunds_rows : refunds_in k m ss ≡ total k.refund (filter (ends_by k.LIFE m) (map (reads k.term) ss))
+  refunds_rows = sym (ap (total k.refund) (kept_by_map (ends_by k.LIFE m) (reads k.term) ss) ∙ total_map k.refund (reads k.term) (ending k m ss))
 
-  pub losses_rows : losses_in k m ss ≡ total (loss (kind_of k)) (filter (ends_by k.life m) (map (reads k.term) ss))
-  losses_rows = sym (ap (total (loss (kind_of k))) (kept_by_map (ends_by k.life m) (reads k.term) ss) ∙ total_map (loss (kind_of k)) (reads k.term) (ending k m ss))
+  pub losses_rows : losses_in k m ss ≡ total (loss (kind_of k)) (filter (ends_by k.LIFE m) (map (reads k.term) ss))
+  losses_rows = sym (ap (total (loss (kind_of k))) (kept_by_map (ends_by k.LIFE m) (reads k.term) ss) ∙ total_map (loss (kind_of k)) (reads k.term) (ending k m ss))
 
   -- what ends is refunded or lost, and the rest stays
   pub turn_sums : ((p : Portion T) → k.refund p ≤ p.left) → (ss' : List Slot) (r x : ℕ) → ss' ≡ staying k m ss → r ≡ refunds_in k m ss → x ≡ losses_in k m ss →
       r + x + left_in (map plain ss') ≡ left_in (map plain ss)
   turn_sums within ss' r x stay refunded lost =
       let parts = total_parts (λ row. (plain row).left) (refund_in k) (loss_in k) (λ row. omega (arith, within (reads k.term row))) (ending k m ss) in
-      let both = total_split (λ row. (plain row).left) (λ row. ends_by k.life m (plain row)) ss in
+      let both = total_split (λ row. (plain row).left) (λ row. ends_by k.LIFE m (plain row)) ss in
       let here = total_map (λ p. p.left) plain ss in
       let left = total_map (λ p. p.left) plain ss' ∙ ap (total (λ row. (plain row).left)) stay in
       omega (arith, parts, both, here, left, refunded, lost)

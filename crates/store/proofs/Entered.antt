@@ -35,11 +35,11 @@ module _ {K T : Type 0} {k : Ghosts K T} (s : Store K T k) (a : ℕ) (met : Ente
   free = sym (has_plain k.term s.month (held s.rows)) ∙ met.free
 
   -- the open portions are of the months before
-  before : rises (s.month + 1 - span k.life s.opened) s.month (kept s.rows) ≡ true
+  before : rises (s.month + 1 - span k.LIFE s.opened) s.month (kept s.rows) ≡ true
   before = rises_free _ s.month (kept s.rows) (omega (arith, open_span s met.is_open)) (parts s).rising free
 
   -- so there are no more of them than the life has months
-  pub in_life : in_use s ≤ k.life
+  pub in_life : in_use s ≤ k.LIFE
   in_life =
       omega (arith, rises_length _ s.month (kept s.rows) before, open_span s met.is_open, length-map (held s.rows) plain, length-take-le (in_use s) (lent s) s.rows.within)
 
@@ -65,7 +65,7 @@ module _ {K T : Type 0} {k : Ghosts K T} (s : Store K T k) (a : ℕ) (met : Ente
         let e = ap (λ n. take n rows'.slots.now) more ∙ ap (take (in_use s + 1)) written ∙ take_more_set (lent s) (in_use s) row row_free in
         subst (Exact k) (sym e) (exact_push k (held s.rows) row s.clean exact)
 
-    pub entered_sound : (totals' : Totals) → totals' ≡ more_entered s.totals a → Sound k.life rows' s.opened s.month totals'
+    pub entered_sound : (totals' : Totals) → totals' ≡ more_entered s.totals a → Sound k.LIFE rows' s.opened s.month totals'
     entered_sound totals' counted =
         let e = push plain in
         let m : (plain row).month ≡ s.month = ap (λ p. p.month) is in

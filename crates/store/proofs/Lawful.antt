@@ -7,7 +7,7 @@ use Rattle.ledger.specs.Kinds.{LawfulKind}
 use Rattle.ledger.specs.Rules.{Rule, LawfulRule}
 use Rattle.store.specs.Reading.{kind_of}
 
-pub lawful : {K T : Type 0} (k : Ghosts K T) → 1 ≤ k.life → k.life ≤ 15 → ((p : Portion T) → k.refund p ≤ p.left) → LawfulKind (kind_of k)
+pub lawful : {K T : Type 0} (k : Ghosts K T) → 1 ≤ k.LIFE → k.LIFE ≤ 15 → ((p : Portion T) → k.refund p ≤ p.left) → LawfulKind (kind_of k)
 lawful k lasting short within = record { life_from = lasting; life_to = short; refund_within = within }
 
 pub lawful_rule : (gives : Rule) → ((m w : ℕ) (ls : List ℕ) → length (gives m ls w) ≡ length ls) → ((m w : ℕ) (ls : List ℕ) (i : ℕ) → get_or (gives m ls w) i 0 ≤ get_or ls i 0) →

@@ -49,5 +49,5 @@ pub totals_small : {K T : Type 0} {k : Ghosts K T} (s : Store K T k) → s.total
 totals_small s = omega (arith, (parts s).bounded, (parts s).dated, due_most s.month (kept s.rows))
 
 -- once a store is open, its span is its kind's life and one more
-pub open_span : {K T : Type 0} {k : Ghosts K T} (s : Store K T k) → s.opened ≡ true → span k.life s.opened ≡ k.life + 1
-open_span {k = k} s o = ap (λ b. cond b (k.life + 1) 0) o
+pub open_span : {K T : Type 0} {k : Ghosts K T} (s : Store K T k) → s.opened ≡ true → span k.LIFE s.opened ≡ k.LIFE + 1
+open_span {k = k} s o = ap (λ b. cond b (k.LIFE + 1) 0) o

@@ -51,15 +51,15 @@ bounded_turned m n ps qs b =
 module _ {K T : Type 0} {k : Ghosts K T} (s : Store K T k) (rows' : Rows) (r x : ℕ)
     (stay : held rows' ≡ staying k (s.month + 1) (held s.rows))
     (all : r + x + left_in (map plain (held rows')) ≡ left_in (kept s.rows)) where
-  rising_turned : s.opened ≡ true → rises (s.month + 1 + 1 - span k.life s.opened) (s.month + 1 + 1) (kept rows') ≡ true
+  rising_turned : s.opened ≡ true → rises (s.month + 1 + 1 - span k.LIFE s.opened) (s.month + 1 + 1) (kept rows') ≡ true
   rising_turned o =
       let e = open_span s o in
-      let q = rises_later k.life (s.month + 1) _ (s.month + 1) (s.month + 1 + 1) (kept s.rows) (omega arith) (omega arith) (parts s).rising in
-      let n : s.month + 1 + 1 - span k.life s.opened ≡ s.month + 1 - k.life = omega (arith, e) in
-      let p = ap (map plain) stay ∙ sym (kept_by_map (stays_in k.life (s.month + 1)) plain (held s.rows)) in
+      let q = rises_later k.LIFE (s.month + 1) _ (s.month + 1) (s.month + 1 + 1) (kept s.rows) (omega arith) (omega arith) (parts s).rising in
+      let n : s.month + 1 + 1 - span k.LIFE s.opened ≡ s.month + 1 - k.LIFE = omega (arith, e) in
+      let p = ap (map plain) stay ∙ sym (kept_by_map (stays_in k.LIFE (s.month + 1)) plain (held s.rows)) in
       rw (n, p) q
 
-  pub turned_sound : TurnMet (ledger_of k s) → length rows'.slots.now ≡ room s → (totals' : Totals) → totals' ≡ more_ended s.totals r x → Sound k.life rows' s.opened (s.month + 1) totals'
+  pub turned_sound : TurnMet (ledger_of k s) → length rows'.slots.now ≡ room s → (totals' : Totals) → totals' ≡ more_ended s.totals r x → Sound k.LIFE rows' s.opened (s.month + 1) totals'
   turned_sound met long totals' counted =
       rw counted (
         (omega (arith, long, (parts s).roomy), rising_turned met.is_open),
@@ -79,7 +79,7 @@ module _ {K T : Type 0} {k : Ghosts K T} (s : Store K T k) (rows' : Rows) (r x :
         let o = (turn_met (ledger_of k s) none).is_open in
         let a = refunds_are in
         let b = losses_are in
-        let q = ap (map (reads k.term)) stay ∙ sym (kept_by_map (stays_in k.life (s.month + 1)) (reads k.term) (held s.rows)) in
+        let q = ap (map (reads k.term)) stay ∙ sym (kept_by_map (stays_in k.LIFE (s.month + 1)) (reads k.term) (held s.rows)) in
         let state : read_off k rows' s.opened (s.month + 1) totals' ≡ turning (kind_of k) (ledger_of k s) = simp (o, q, counted, a, b) in
         state ∙ ap (λ y. becomes y (turning (kind_of k) (ledger_of k s)) (ledger_of k s)) (sym none)
 

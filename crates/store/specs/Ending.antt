@@ -16,11 +16,11 @@ loss_in k row = (plain row).left - refund_in k row
 
 -- the rows that stay as the month comes
 abbrev pub staying : {K T : Type 0} → Ghosts K T → ℕ → List Slot → List Slot
-staying k month rows = filter (λ row. stays_in k.life month (plain row)) rows
+staying k month rows = filter (λ row. stays_in k.LIFE month (plain row)) rows
 
 -- the rows that end
 abbrev pub ending : {K T : Type 0} → Ghosts K T → ℕ → List Slot → List Slot
-ending k month rows = filter (λ row. ends_by k.life month (plain row)) rows
+ending k month rows = filter (λ row. ends_by k.LIFE month (plain row)) rows
 
 -- the refunds of those that end, summed
 abbrev pub refunds_in : {K T : Type 0} → Ghosts K T → ℕ → List Slot → ℕ

@@ -10,7 +10,7 @@ use Rattle.ledger.specs.Ledger.{Ledger}
 
 -- a kind of the code, as plain data
 abbrev pub kind_of : {K T : Type 0} → Ghosts K T → Kind T
-kind_of k = record { life = k.life; refund = k.refund }
+kind_of k = record { life = k.LIFE; refund = k.refund }
 
 -- what a store means: its open portions are those in the rows in use
 abbrev pub ledger_of : {K T : Type 0} (k : Ghosts K T) → Store K T k → Ledger T

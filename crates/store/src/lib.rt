@@ -25,6 +25,6 @@ pub struct Store<'a, K: Kind> {
     opened: bool,
     month: u16,
     totals: Totals,
-    ghost sound: { Sound K.Kind.life rows opened month totals },
+    ghost sound: { Sound K.Kind.LIFE rows opened month totals },
     ghost clean: { Clean K.Kind rows },
 }

@@ -15,7 +15,7 @@ const LARGEST_WANTED: u32 = 1_000_000_000;
 pub(crate) fn may_open<K: Kind>(slots: usize, month: u16) -> Result<(), StoreFault>
     ensures { result ≡ answers (open_refusal (kind_of K.Kind) slots month) tt }
 {
-    if slots <= usize::from(K::months()) {
+    if slots <= usize::from(K::LIFE) {
         return Err(StoreFault::TooFewSlots);
     }
     if month < FIRST_MONTH || month > LAST_MONTH {

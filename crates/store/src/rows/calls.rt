@@ -53,7 +53,7 @@ impl<'a> Rows<'a> {
         ensures same { self.new.slots.ghost_name ≡ self.old.slots.ghost_name }
     {
         let rows = self.in_use();
-        let first = how_many_end(rows, K::months(), month);
+        let first = how_many_end(rows, K::LIFE, month);
         let ended = end_each::<K>(&rows[..first]);
         self.slots.copy_within(first..self.filled, 0);
         self.filled -= first;

@@ -11,8 +11,8 @@ returns g c =
     let s = c.args.self.now in
     let m = c.args.month in
     let ends = c.how_many_end-first.ensures in
-    let over = moved k s.slots.now _ _ _ s.filled _ m c.in_use-rows.ensures s.within ends.few c.months.ensures ends.stay c.copy_within.ensures.after in
-    let first = first_ended k (held s) _ _ _ m c.in_use-rows.ensures c.months.ensures ends.end in
+    let over = moved k s.slots.now _ _ _ s.filled _ m c.in_use-rows.ensures s.within ends.few c.LIFE.ensures ends.stay c.copy_within.ensures.after in
+    let first = first_ended k (held s) _ _ _ m c.in_use-rows.ensures c.LIFE.ensures ends.end in
     let refunded = c.end_each-ended.ensures.refunded ∙ ap (total (refund_in k)) first in
     let lost = c.end_each-ended.ensures.lost ∙ ap (total (loss_in k)) first in
     record {
