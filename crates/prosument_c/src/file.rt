@@ -65,11 +65,7 @@ pub extern "C" fn prosument_open_billing(
 
 // Appends the record that opens a book.
 #[unsafe(no_mangle)]
-pub extern "C" fn prosument_open_book(
-    file: &mut [u8],
-    used: &mut usize,
-    tariff: &TariffOfC,
-) -> u32
+pub extern "C" fn prosument_open_book(file: &mut [u8], used: &mut usize, tariff: &TariffOfC) -> u32
     ensures { Appends (opens_book (tariff.now.working ∷ tariff.now.weekend ∷ []) tariff.now.sale) result file.old used.old file.new used.new }
 {
     let marks = [tariff.working, tariff.weekend];

@@ -17,4 +17,4 @@ returns-clause-history g c =
     let done = c.read_next.ensures in
     let hour = next_hour g.S.PriceSource s t y i e in
     subst (λ (r : Result (Unit {0}) BookFault). ReadsOn t y hour r c.read_next.new.self.tally) (sym done.answer)
-        (subst (λ (z : Tally). ReadsOn t y hour (answer (next_reading g.S.PriceSource s t y i e)) z) (sym done.tally) (reads_on t y i e (next_price g.S.PriceSource s t y) done.bounded))
+    (subst (λ (z : Tally). ReadsOn t y hour (answer (next_reading g.S.PriceSource s t y i e)) z) (sym done.tally) (reads_on t y i e (next_price g.S.PriceSource s t y) done.bounded))
