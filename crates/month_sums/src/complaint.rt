@@ -1,4 +1,7 @@
 // What is wrong with the input, and in which of its lines.
+ghost use Rattle.std.specs.Prelude.{◌≡◌};
+ghost use Rattle.month_sums.specs.declared.complaint.Complaint.TheVariants.{Memory};
+
 use faults::BookFault;
 use std::alloc::{AllocError, AllocFailed};
 use std::fmt;
@@ -29,12 +32,16 @@ pub enum Complaint {
 
 // Both by hand, since a derived From keeps the error in a field, and this case has none.
 impl From<AllocError> for Complaint {
+    ghost from_gives = { λ _ r. r ≡ Memory };
+
     fn from(_e: AllocError) -> Complaint {
         Complaint::Memory
     }
 }
 
 impl<T: Drop> From<AllocFailed<T>> for Complaint {
+    ghost from_gives = { λ _ r. r ≡ Memory };
+
     fn from(_e: AllocFailed<T>) -> Complaint {
         Complaint::Memory
     }

@@ -1,5 +1,6 @@
 // The input's lines: the terms of the month, two rows of zone marks, and the hours. Words stand between blanks.
-ghost use Rattle.std.specs.Prelude.{◌≡◌, ◌≤◌, [], ◌∷◌, ◌++◌, Some, None, Ok, Err, vec_len, OnOk};
+ghost use Rattle.std.specs.Prelude.{◌≡◌, ◌≤◌, [], ◌∷◌, ◌++◌, Some, None, Ok, Err, IfErr, vec_len, OnOk};
+ghost use Rattle.month_sums.specs.Lines.{AddRefused};
 
 use crate::complaint::{Complaint, Reason};
 use crate::month::parse_month;
@@ -102,11 +103,13 @@ impl Hours {
         }
     }
 
-    // Adds the hour of a line. Prices are given from the first hour on without a gap.
+    // Adds the hour of a line. Prices are given from the first hour on without a gap: one after a gap is a complaint, and so is
+    // want of memory, and there is no other.
     fn add(&mut self, line: usize, hour: HourLine) -> Result<(), Complaint>
         ensures read { OnOk result (self.new.readings.items ≡ self.old.readings.items ++ hour.reading ∷ []) }
         ensures priced { OnOk result (elim hour.price [ Some z ↦ self.new.prices.items ≡ self.old.prices.items ++ z ∷ [] | None ↦ self.new.prices.items ≡ self.old.prices.items ]) }
         ensures late { OnOk result (elim hour.price [ Some z ↦ vec_len self.old.prices ≡ vec_len self.old.readings | None ↦ Unit {0} ]) }
+        ensures refused { IfErr result (λ e. AddRefused line hour.price self.old.readings.items self.old.prices.items e) }
     {
         if hour.price.is_some() && self.prices.len() < self.readings.len() {
             return Err(Complaint::Line {

@@ -1,6 +1,7 @@
 // Months by name, as 2024-03, and by number, January 2016 being 0.
-ghost use Rattle.std.specs.Prelude.{◌≡◌, ℕ, ◌<◌, IfOk, Some, None, ◌≢◌};
+ghost use Rattle.std.specs.Prelude.{◌≡◌, ℕ, ◌<◌, MatchResult, Some, None, ◌≢◌};
 ghost use Rattle.calendar.specs.Calendar.{calendar_month_of, year_of};
+ghost use Rattle.month_sums.specs.Named.{MonthNamed};
 
 use crate::complaint::Reason;
 use crate::word::parse_word;
@@ -47,7 +48,7 @@ fn month_number(year: u16, month: u8) -> Option<u16>
 
 // The number of the month that a text names.
 pub(crate) fn parse_month(text: &str) -> Result<u16, Reason>
-    ensures { IfOk result (λ n. n < 1200) }
+    ensures { MatchResult result (λ n. (n < 1200) × MonthNamed text.now n) (λ e. (n : ℕ) → n < 1200 → MonthNamed text.now n → ⊥) }
 {
     let (year, month) = text.split_once('-').ok_or(Reason::MonthText)?;
     // A number may begin with a plus sign, and a year or a month may not.

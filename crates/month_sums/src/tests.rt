@@ -1,5 +1,7 @@
 // The complaints about bad input.
 use crate::month_table;
+use crate::refusal::refused_in;
+use faults::BookFault;
 use std::alloc::{AllocError, Global};
 use std::process::Abort;
 use std::test::Fail;
@@ -19,6 +21,47 @@ fn told(heap: Global, text: &str) -> Result<String, AllocError> {
 fn complains(rt: &impl Abort, heap: Global, hours: &str, complaint: &str) -> Result<(), Fail> {
     let text = format!(in heap; "{TERMS}\n{WORKING}\n{WEEKEND}\n{hours}")?;
     assert_eq!(rt; told(heap, text.as_str())?.as_str(), complaint);
+    Ok(())
+}
+
+// The complaint about a first line above good marks and no hours.
+fn begins(rt: &impl Abort, heap: Global, terms: &str, complaint: &str) -> Result<(), Fail> {
+    let text = format!(in heap; "{terms}\n{WORKING}\n{WEEKEND}\n")?;
+    assert_eq!(rt; told(heap, text.as_str())?.as_str(), complaint);
+    Ok(())
+}
+
+#[test]
+fn first_lines(rt: HostRuntime) -> Result<(), Fail> {
+    let heap = rt.alloc();
+    let complaint = "line 1: the month is not written as YYYY-MM";
+    begins(&rt, heap, "02024-03 0 0 0 0", complaint)?;
+    begins(&rt, heap, "+024-03 0 0 0 0", complaint)?;
+    let complaint = "line 1: the month is not from 2019-12 to 2115-12 (refusal 2)";
+    begins(&rt, heap, "2024-13 0 0 0 0", complaint)?;
+    begins(&rt, heap, "2019-11 0 0 0 0", complaint)?;
+    let complaint = "line 1: expected the month, the month price and three sale prices";
+    begins(&rt, heap, "2024-03 0 0 0", complaint)?;
+    begins(&rt, heap, "2024-03 0 0 0 0 0", complaint)?;
+    let complaint = "line 1: a sale price is over 1000000 gr per MWh (refusal 12)";
+    begins(&rt, heap, "2024-03 0 0 0 1000001", complaint)
+}
+
+#[test]
+fn words_of_refusals(rt: HostRuntime) -> Result<(), Fail> {
+    let heap = rt.alloc();
+    let complaint = refused_in(747, BookFault::BookComplete);
+    let text = format!(in heap; "{complaint}")?;
+    assert_eq!(rt;
+        text.as_str(),
+        "line 747: the month has no more hours (refusal 14)"
+    );
+    let complaint = refused_in(4, BookFault::NoPrice);
+    let text = format!(in heap; "{complaint}")?;
+    assert_eq!(rt;
+        text.as_str(),
+        "line 4: there is no price for the hour (refusal 15)"
+    );
     Ok(())
 }
 
