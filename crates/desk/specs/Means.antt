@@ -1,5 +1,5 @@
 -- What the code's desk means.
-use Rattle.std.specs.Prelude.{◌≡◌, ℕ, ◌<◌, List, ℤ, Some, None, Ok, Err, vec_items, Option, Result}
+use Rattle.std.specs.Prelude.{◌≡◌, ◌≢◌, [], ℕ, ◌<◌, List, ℤ, Some, None, Ok, Err, vec_items, Option, Result}
 use Rattle.std.specs.Option.{option_map}
 use Rattle.faults.specs.declared.BookFault.{BookFault}
 use Rattle.faults.specs.declared.ProgramFault.{ProgramFault}
@@ -155,19 +155,19 @@ pub record Done (does : State → Outcome State) (r : Result Said ProgramFault) 
   pub came : (s : State) → Means d s → Came (does s) r (Means d')
   pub slots : slots_of d'.accounts ≡ slots_of d.accounts
 
--- a record that brings a list of prices
+-- a record that brings at least one hour price
 abbrev pub BringsPrices : Rec → Type 0
 BringsPrices (opens_metering month power period) = ⊥
 BringsPrices (opens_billing month percentage) = ⊥
 BringsPrices (opens_book marks sale) = ⊥
 BringsPrices (gives_month_price price) = ⊥
-BringsPrices (gives_hour_prices prices) = Unit {0}
+BringsPrices (gives_hour_prices prices) = prices ≢ []
 BringsPrices (reading import export) = ⊥
 BringsPrices finish = ⊥
 BringsPrices settle = ⊥
 BringsPrices turn = ⊥
 
--- a step took the record as it is defined; memory can be wanting only for a list of prices, and then nothing differs
+-- a step took the record as it is defined; memory can be wanting only for hour prices, and then nothing differs
 abbrev pub Took : Memory → State → Rec → Result Answer StepFault → List Line → (State → Type 0) → Type 0
 Took memory s said_by (Ok answer) lines Stands = Came (taken memory s said_by) (Ok (said answer lines)) Stands
 Took memory s said_by (Err (Refused fault)) lines Stands = Came (taken memory s said_by) (Err fault) Stands
