@@ -11,7 +11,19 @@ use Rattle.desk.specs.State.{BookState, State}
 use Rattle.desk.specs.Outcome.{Outcome, by_book}
 use Rattle.desk.specs.Accounts.{own_month}
 use Rattle.desk.specs.Steps.{book_step, change, with_account}
-use Rattle.desk.specs.Means.{BookCame, BookHolds, Came, Changes, HoldsAfter, Means, account_of, in_place}
+use Rattle.desk.specs.declared.account_calls.Accounts.{Accounts}
+use Rattle.desk.specs.declared.account_calls.Sort.{Sort}
+use Rattle.desk.specs.declared.account_calls.Sort.TheVariants.{Metering, Billing}
+use Rattle.desk.specs.Means.{BookCame, BookHolds, Came, Changes, HoldsAfter, Means, Rests, account_of, in_place}
+
+-- an account that nothing was done to is as it was
+rests_all : (o : Option Sort) (a : Accounts) → Rests o a a
+rests_all None a = refl
+rests_all (Some Metering) a = refl
+rests_all (Some Billing) a = refl
+
+pub rests_same : (a : Accounts) → Rests a.opened a a
+rests_same a = rests_all a.opened a
 
 abbrev Does : Type 0
 Does = ℕ → Option BookState → Outcome (Option BookState)

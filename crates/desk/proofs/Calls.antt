@@ -30,7 +30,7 @@ use Rattle.accounts.specs.Slots.{EachAccounted}
 use Rattle.desk.specs.State.{Account}
 use Rattle.desk.specs.State.Account.{metered, billed}
 use Rattle.desk.specs.Outcome.{Outcome, by_account}
-use Rattle.desk.specs.Means.{AccountCame, Called, account_in, nothing_said}
+use Rattle.desk.specs.Means.{AccountCame, Called, Rests, account_in, nothing_said}
 
 module _ {V : Type 0} where
   -- an accepted call has no refusal
@@ -72,6 +72,7 @@ pub on_metering : (does : Account → Outcome Account) (a : Accounts) (m : Meter
     fewest m.meters.stores ≡ fewest a.metering.meters.stores → Called does r a (record { opened = a.opened; metering = m; billing = a.billing })
 on_metering does a m r e came slots = record {
   came = subst (λ (v : Option Sort). AccountCame (does (account_in v (meters.metered a.metering) (bills.billed a.billing))) r (account_in v (meters.metered m) (bills.billed a.billing))) (sym e) came;
+  rests = subst (λ (v : Option Sort). Rests v a (record { opened = a.opened; metering = m; billing = a.billing })) (sym e) refl;
   slots = ap (λ (n : ℕ). (n, room a.billing.store)) slots;
 }
 
@@ -80,6 +81,7 @@ pub on_billing : (does : Account → Outcome Account) (a : Accounts) (b : Billin
     room b.store ≡ room a.billing.store → Called does r a (record { opened = a.opened; metering = a.metering; billing = b })
 on_billing does a b r e came slots = record {
   came = subst (λ (v : Option Sort). AccountCame (does (account_in v (meters.metered a.metering) (bills.billed a.billing))) r (account_in v (meters.metered a.metering) (bills.billed b))) (sym e) came;
+  rests = subst (λ (v : Option Sort). Rests v a (record { opened = a.opened; metering = a.metering; billing = b })) (sym e) refl;
   slots = ap (λ (n : ℕ). (fewest a.metering.meters.stores, n)) slots;
 }
 

@@ -1,5 +1,5 @@
 -- What the code's desk means.
-use Rattle.std.specs.Prelude.{◌≡◌, ℕ, ◌<◌, List, ℤ, Some, None, Ok, Err, vec_items, Option, Result}
+use Rattle.std.specs.Prelude.{◌≡◌, ◌≢◌, [], ℕ, ◌<◌, List, ℤ, Some, None, Ok, Err, vec_items, Option, Result}
 use Rattle.std.specs.Option.{option_map}
 use Rattle.faults.specs.declared.BookFault.{BookFault}
 use Rattle.faults.specs.declared.ProgramFault.{ProgramFault}
@@ -115,9 +115,20 @@ in_place (Some x) = Ok x
 abbrev pub AccountCame : Outcome Account → Result Said ProgramFault → Account → Type 0
 AccountCame o r account = (o.answer ≡ r) × (o.after ≡ account)
 
--- a call on the code's accounts came out as is defined of the open one, and left as many slots
+-- what the two accounts mean, open or not
+abbrev pub both : Accounts → MeterAccount × BillAccount
+both a = (metering.metered a.metering, billing.billed a.billing)
+
+-- what is not open is as it was: the other account where one is open, and both where none is
+abbrev pub Rests : Option Sort → Accounts → Accounts → Type 0
+Rests None a a' = both a' ≡ both a
+Rests (Some sort.Metering) a a' = billing.billed a'.billing ≡ billing.billed a.billing
+Rests (Some sort.Billing) a a' = metering.metered a'.metering ≡ metering.metered a.metering
+
+-- a call on the code's accounts came out as is defined of the open one, left alone what is not open, and left as many slots
 pub record Called (does : Account → Outcome Account) (r : Result Said ProgramFault) (a a' : Accounts) : Type 0 where
   pub came : AccountCame (does (account_of a)) r (account_of a')
+  pub rests : Rests a'.opened a a'
   pub slots : slots_of a' ≡ slots_of a
 
 -- what an answer says with the caller's lines, or a refusal
@@ -150,24 +161,25 @@ pub record Means (d : Desk) (s : State) : Type 0 where
 abbrev pub Came : Outcome State → Result Said ProgramFault → (State → Type 0) → Type 0
 Came o r Stands = (o.answer ≡ r) × Stands o.after
 
--- what was done at a desk came out as is defined of each state that it stood at, and left as many slots
+-- what was done at a desk came out as is defined of each state that it stood at, left alone what is not open, and left as many slots
 pub record Done (does : State → Outcome State) (r : Result Said ProgramFault) (d d' : Desk) : Type 0 where
   pub came : (s : State) → Means d s → Came (does s) r (Means d')
+  pub rests : Rests d'.accounts.opened d.accounts d'.accounts
   pub slots : slots_of d'.accounts ≡ slots_of d.accounts
 
--- a record that brings a list of prices
+-- a record that brings at least one hour price
 abbrev pub BringsPrices : Rec → Type 0
 BringsPrices (opens_metering month power period) = ⊥
 BringsPrices (opens_billing month percentage) = ⊥
 BringsPrices (opens_book marks sale) = ⊥
 BringsPrices (gives_month_price price) = ⊥
-BringsPrices (gives_hour_prices prices) = Unit {0}
+BringsPrices (gives_hour_prices prices) = prices ≢ []
 BringsPrices (reading import export) = ⊥
 BringsPrices finish = ⊥
 BringsPrices settle = ⊥
 BringsPrices turn = ⊥
 
--- a step took the record as it is defined; memory can be wanting only for a list of prices, and then nothing differs
+-- a step took the record as it is defined; memory can be wanting only for hour prices, and then nothing differs
 abbrev pub Took : Memory → State → Rec → Result Answer StepFault → List Line → (State → Type 0) → Type 0
 Took memory s said_by (Ok answer) lines Stands = Came (taken memory s said_by) (Ok (said answer lines)) Stands
 Took memory s said_by (Err (Refused fault)) lines Stands = Came (taken memory s said_by) (Err fault) Stands

@@ -1,13 +1,13 @@
 // The two accounts, and what records do to the open one.
 ghost use Rattle.std.specs.Prelude.{◌≡◌, [], length, drop};
 ghost use Rattle.accounts.specs.Means.{fewest};
-ghost use Rattle.accounts.specs.Metered.{meter_opening};
-ghost use Rattle.accounts.specs.Billed.{bill_opening};
+ghost use Rattle.accounts.specs.Metered.{meter_opening, metered};
+ghost use Rattle.accounts.specs.Billed.{bill_opening, billed};
 ghost use Rattle.store.specs.Held.{room};
 ghost use Rattle.faults.specs.declared.ProgramFault.TheVariants.{InAccount};
 ghost use Rattle.desk.specs.State.Account.{none};
 ghost use Rattle.desk.specs.Accounts.{account_settled, account_turned, billing_opened, metering_opened, own_month, sums_entered};
-ghost use Rattle.desk.specs.Means.{Called, account_of, in_place, lines_written, nothing_said, said_with, slots_of};
+ghost use Rattle.desk.specs.Means.{Called, account_of, both, in_place, lines_written, nothing_said, said_with, slots_of};
 
 use accounts::{Billing, Metering};
 use answers::Answer;
@@ -54,6 +54,7 @@ impl<'a> Accounts<'a> {
     // Two accounts of which none is open.
     pub(crate) fn new(metering: Metering<'a>, billing: Billing<'a>) -> Accounts<'a>
         ensures none { account_of result ≡ none }
+        ensures kept { both result ≡ (metered metering.entry, billed billing.entry) }
         ensures slots { slots_of result ≡ (fewest metering.entry.meters.stores, room billing.entry.store) }
     {
         Accounts {

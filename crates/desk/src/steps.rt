@@ -3,13 +3,15 @@ ghost use Rattle.std.specs.Prelude.{◌≡◌, Option, Result, length, drop};
 ghost use Rattle.std.specs.Fn.{FnOnceReturnsAtMut};
 ghost use Rattle.faults.specs.declared.BookFault.{BookFault};
 ghost use Rattle.accounts.specs.Means.{fewest};
+ghost use Rattle.accounts.specs.Metered.{metered};
+ghost use Rattle.accounts.specs.Billed.{billed};
 ghost use Rattle.store.specs.Held.{room};
 ghost use Rattle.records.specs.Records.{record_model};
 ghost use Rattle.desk.specs.Accounts.{own_month};
 ghost use Rattle.desk.specs.Books.{each_in_range, hour_refusal, price_in_range, price_refusal, with_next_hour, with_hourly, with_monthly};
 ghost use Rattle.desk.specs.State.{BookState, State, outset};
 ghost use Rattle.desk.specs.Steps.{book_opened, book_step, change, finish_book};
-ghost use Rattle.desk.specs.Means.{Changes, Done, Means, Took, lines_written, memory_of, nothing_said, slots_of};
+ghost use Rattle.desk.specs.Means.{Changes, Done, Means, Rests, Took, both, lines_written, memory_of, nothing_said, slots_of};
 
 use crate::account_calls::Accounts;
 use crate::book::{Incomplete, OpenBook};
@@ -33,6 +35,7 @@ impl<'a> Desk<'a> {
     // A desk before the first record: no account is open, and no book.
     pub fn new(metering: Metering<'a>, billing: Billing<'a>) -> Desk<'a>
         ensures means { Means result outset }
+        ensures kept { both result.accounts ≡ (metered metering.entry, billed billing.entry) }
         ensures slots { slots_of result.accounts ≡ (fewest metering.entry.meters.stores, room billing.entry.store) }
     {
         Desk {
@@ -132,6 +135,7 @@ impl<'a> Desk<'a> {
     ) -> Result<Answer, StepFault>
         ensures taken { (s : State) → Means self.old s → Took (memory_of self.old (length lines.old)) s (record_model said.now) result lines.new (Means self.new) }
         ensures lines { drop (lines_written result) lines.new ≡ drop (lines_written result) lines.old }
+        ensures rests { Rests self.new.accounts.opened self.old.accounts self.new.accounts }
         ensures slots { slots_of self.new.accounts ≡ slots_of self.old.accounts }
     {
         match *said {

@@ -1,5 +1,5 @@
 // Lists of prices, read from bytes and written as the record of the hours' prices.
-ghost use Rattle.std.specs.Prelude.{◌≡◌, ◌≤◌, length, IfOk, MatchResult};
+ghost use Rattle.std.specs.Prelude.{◌≡◌, ◌≢◌, ◌≤◌, [], length, IfOk, OnErr, MatchResult};
 ghost use Rattle.records.specs.Prices.{price_at, prices_read};
 ghost use Rattle.records.specs.Records.{gives_hour_prices};
 ghost use Rattle.records.specs.Says.{Says};
@@ -18,8 +18,13 @@ pub(crate) fn price_of(bytes: [u8; 4]) -> i32
 
 // The prices that stand in the bytes, four bytes each.
 pub fn price_list(heap: Global, bytes: &[u8]) -> Result<Vec<i32>, AllocError>
-    ensures { IfOk result (λ v. v.items ≡ prices_read bytes.now) }
+    ensures prices { IfOk result (λ v. v.items ≡ prices_read bytes.now) }
+    ensures wanting { OnErr result (prices_read bytes.now ≢ []) }
 {
+    // No memory is asked for where no price stands.
+    if bytes.len() < 4 {
+        return Ok(Vec::new(heap));
+    }
     let (fours, _) = bytes.as_chunks::<4>();
     fours.iter().map(|four| price_of(*four)).collect(heap)
 }
