@@ -1,12 +1,14 @@
 // The open book, with the prices that were given for it.
-ghost use Rattle.std.specs.Prelude.{◌≡◌, ℕ, List, Some, None, Ok, Err};
+ghost use Rattle.std.specs.Prelude.{◌≡◌, ◌-◌, ◌≤◌, ℕ, List, length, drop, Some, None, Ok, Err};
 ghost use Rattle.hours.specs.Opening.{book_open_refusal};
 ghost use Rattle.desk.specs.State.{BookState};
 ghost use Rattle.desk.specs.Books.{each_in_range, begun, finish_refusal, hour_refusal, price_in_range, price_refusal, book_sums, with_next_hour, with_hourly, with_monthly};
+ghost use Rattle.desk.specs.Stretch.{HourAccepted, ReadOn};
 ghost use Rattle.desk.specs.Means.{Holds, HoldsAfter, Kept};
 
 use faults::BookFault;
 use hours::{Book, HourPrices, MonthPrice, MonthSums, Reading, StandIn, Tariff, Unfinished};
+use records::{NextReading, next_reading};
 
 // An open book: its month, its readings, and its hour prices over its month price.
 #[derive(Drop)]
@@ -64,6 +66,27 @@ impl OpenBook {
         ensures { (s : BookState) → Holds self.old s → HoldsAfter (hour_refusal reading.import reading.export s) s (with_next_hour reading.import reading.export s) result self.new }
     {
         self.book.read(reading, &mut self.prices)
+    }
+
+    // Reads the readings that the bytes begin with, up to another record or a reading that is refused: what follows them.
+    pub(crate) fn read_on<'b>(&mut self, bytes: &'b [u8]) -> &'b [u8]
+        ensures read { (s : BookState) → Holds self.old s → ReadOn HourAccepted s bytes.now result.now (Holds self.new) }
+        ensures within { length result.now ≤ length bytes.now }
+        ensures behind { result.now ≡ drop (length bytes.now - length result.now) bytes.now }
+    {
+        let mut rest = bytes;
+        while let Some(next) = next_reading(rest) {
+            let NextReading {
+                import,
+                export,
+                rest: after,
+            } = next;
+            if self.read(Reading { import, export }).is_err() {
+                break;
+            }
+            rest = after;
+        }
+        rest
     }
 
     // The sums of a complete book; one with hours missing is handed back.

@@ -1,5 +1,5 @@
 // The desk, and what it does with a record.
-ghost use Rattle.std.specs.Prelude.{◌≡◌, Option, Result, length, drop};
+ghost use Rattle.std.specs.Prelude.{◌≡◌, ◌≤◌, Option, Result, length, drop};
 ghost use Rattle.std.specs.Fn.{FnOnceReturnsAtMut};
 ghost use Rattle.faults.specs.declared.BookFault.{BookFault};
 ghost use Rattle.accounts.specs.Means.{fewest};
@@ -11,6 +11,7 @@ ghost use Rattle.desk.specs.Accounts.{own_month};
 ghost use Rattle.desk.specs.Books.{each_in_range, hour_refusal, price_in_range, price_refusal, with_next_hour, with_hourly, with_monthly};
 ghost use Rattle.desk.specs.State.{BookState, State, outset};
 ghost use Rattle.desk.specs.Steps.{book_opened, book_step, change, finish_book};
+ghost use Rattle.desk.specs.Stretch.{ReadOn, ReadingAccepted};
 ghost use Rattle.desk.specs.Means.{Changes, Done, Means, Rests, Took, both, lines_written, memory_of, nothing_said, slots_of};
 
 use crate::account_calls::Accounts;
@@ -106,6 +107,21 @@ impl<'a> Desk<'a> {
         ensures { Done (book_step (change (hour_refusal reading.import reading.export) (with_next_hour reading.import reading.export))) (nothing_said result) self.old self.new }
     {
         self.change_book(|open| open.read(reading))
+    }
+
+    // Reads on in the open book, as long as the bytes go on with readings that are accepted: how many bytes these take.
+    pub fn read_on(&mut self, bytes: &[u8]) -> usize
+        ensures read { (s : State) → Means self.old s → ReadOn ReadingAccepted s bytes.now (drop result bytes.now) (Means self.new) }
+        ensures within { result ≤ length bytes.now }
+        ensures accounts { self.new.accounts ≡ self.old.accounts }
+    {
+        if self.accounts.month().is_err() {
+            return 0;
+        }
+        let Some(open) = &mut self.book else {
+            return 0;
+        };
+        bytes.len() - open.read_on(bytes).len()
     }
 
     // Finishes the open book and enters its sums; the book is gone, also where the account refuses them.

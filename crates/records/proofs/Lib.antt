@@ -1,4 +1,5 @@
 pub mod Heads
+pub mod First
 pub mod Fours
 pub mod Written
 pub mod Books

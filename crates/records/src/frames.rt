@@ -1,5 +1,5 @@
 // Where one record ends and the next begins.
-ghost use Rattle.std.specs.Prelude.{◌≡◌, length};
+ghost use Rattle.std.specs.Prelude.{◌≡◌, ◌+◌, drop, length, min};
 ghost use Rattle.std.specs.Iterator.{at_most};
 ghost use Rattle.records.specs.Frames.{frame_model, framed, NextGives};
 
@@ -50,6 +50,25 @@ impl<'a> Frames<'a> {
             place: 0,
             rest: input,
         }
+    }
+
+    // The bytes that are left.
+    pub fn rest(&self) -> &'a [u8]
+        ensures { result.now ≡ self.now.rest.now }
+    {
+        self.rest
+    }
+
+    // Passes over the first of the bytes that are left; over all of them where there are not so many.
+    pub fn pass(&mut self, count: usize)
+        ensures place { self.new.place ≡ self.old.place + min count (length self.old.rest.now) }
+        ensures rest { self.new.rest.now ≡ drop count self.old.rest.now }
+    {
+        let passed = count.min(self.rest.len());
+        *self = Frames {
+            place: self.place + passed,
+            rest: &self.rest[passed..],
+        };
     }
 }
 

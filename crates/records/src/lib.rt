@@ -22,6 +22,7 @@ mod encoding;
 mod frames;
 mod left;
 mod prices;
+mod readings;
 
 pub use bare::Bare;
 pub use decoding::{Record, decode};
@@ -31,3 +32,4 @@ pub use encoding::{
 pub use frames::{Frame, Placed, next_frame};
 pub use left::Frames;
 pub use prices::{Unwritten, encode_hour_prices, price_list};
+pub use readings::{NextReading, next_reading};

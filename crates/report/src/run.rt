@@ -10,15 +10,19 @@ use portions::Slot;
 use records::Frames;
 use std::alloc::{AllocError, Global};
 
-// Runs over the records of the input, at a desk that nothing was done at.
+// Runs over the records of the input, at a desk that nothing was done at. After each record the readings that follow it are
+// read in one go: most records are readings, and those that are accepted print nothing.
 fn run(heap: Global, work: &mut Workplace<'_>, input: &[u8]) -> Result<String, AllocError>
     requires { Means work.old.desk outset }
     ensures text { IfOk result (λ text. string_bytes text ≡ report_text input.now) }
     ensures wanting { OnErr result (NeedsMemory input.now) }
 {
     let mut out = String::new(heap);
-    for placed in Frames::new(input) {
+    let mut records = Frames::new(input);
+    while let Some(placed) = records.next() {
         work.serve(heap, &mut out, placed)?;
+        let count = work.read_on(records.rest());
+        records.pass(count);
     }
     Ok(out)
 }

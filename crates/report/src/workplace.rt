@@ -1,7 +1,8 @@
 // The desk that a run works at.
-ghost use Rattle.std.specs.Prelude.{◌≡◌, ◌++◌, ◌⊎◌, ◌≢◌, [], string_bytes, OnErr, OnOk};
+ghost use Rattle.std.specs.Prelude.{◌≡◌, ◌≤◌, ◌++◌, ◌⊎◌, ◌≢◌, [], drop, length, string_bytes, OnErr, OnOk};
 ghost use Rattle.records.specs.Frames.{found};
 ghost use Rattle.desk.specs.State.{State, outset};
+ghost use Rattle.desk.specs.Stretch.{ReadOn, ReadingAccepted};
 ghost use Rattle.desk.specs.Means.{Means, memory_of};
 ghost use Rattle.report.specs.Runs.{answer_text, comes, program_memory, read_of};
 ghost use Rattle.report.specs.Laws.{Handled, ReadsPrices};
@@ -76,5 +77,13 @@ impl<'a> Workplace<'a> {
             Err(StepFault::Refused(fault)) => print_refusal(out, placed.place, fault.number()),
             Err(StepFault::NoMemory) => Err(AllocError),
         }
+    }
+
+    // Reads on, as long as the bytes go on with readings that are accepted, and so print nothing: how many bytes these take.
+    pub(crate) fn read_on(&mut self, bytes: &[u8]) -> usize
+        ensures read { (s : State) → Means self.old.desk s → ReadOn ReadingAccepted s bytes.now (drop result bytes.now) (Means self.new.desk) }
+        ensures within { result ≤ length bytes.now }
+    {
+        self.desk.read_on(bytes)
     }
 }
