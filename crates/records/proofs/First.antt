@@ -6,7 +6,7 @@ use Rattle.records.specs.Frames.{Framed, framed}
 use Rattle.records.specs.Records.{Read, decoded}
 use Rattle.records.specs.Records.Rec.{opens_metering, opens_billing, opens_book, gives_month_price, gives_hour_prices, reading, finish, settle, turn}
 use Rattle.records.specs.Readings.{FirstReading, if_reading, reading_in, first_reading}
-use Rattle.records.proofs.Heads.{framed_parts, framed_joined}
+use Rattle.records.proofs.Heads.{framed_parts, framed_joined, framed_more}
 
 -- bytes begin with a record that is this reading
 pub record Reads (bs : List ℕ) (r : FirstReading) : Type 0 where
@@ -83,3 +83,10 @@ behind_more bs cs ds b c =
 -- nothing is behind nothing
 pub behind_none : (bs : List ℕ) → Behind bs bs
 behind_none bs = record { within = omega arith; left = let n : length bs - length bs ≡ 0 = omega arith in ap (λ n. drop n bs) (sym n) }
+
+-- bytes that come later do not change the first reading
+pub reading_more : (bs later : List ℕ) (r : FirstReading) → first_reading bs ≡ Some r → first_reading (bs ++ later) ≡ Some (record { import = r.import; export = r.export; rest = r.rest ++ later })
+reading_more bs later r e =
+    let one = reads bs r e in
+    ap reading_in (framed_more bs later one.frame one.framed_so) ∙ ap (if_reading (one.frame.rest ++ later)) one.says
+    ∙ ap (λ xs. Some (record { import = r.import; export = r.export; rest = xs ++ later })) (sym one.behind)

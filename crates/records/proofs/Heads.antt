@@ -1,6 +1,6 @@
 -- What a whole record's bytes and parts are.
-use Rattle.std.proofs.Common.{◌≡◌, ℕ, ◌+◌, ◌<◌, ◌≤◌, Bool, true, false, cond, List, [], ◌++◌, length, take, drop, Some, None, sym, refl, ap, ◌∙◌, arith, length-drop}
-use Rattle.std.proofs.lemmas.List.{drop_all, drop-drop, drop-take, get_or-take, length-take-le, take_all, take-append-drop}
+use Rattle.std.proofs.Common.{◌≡◌, ℕ, ◌+◌, ◌<◌, ◌≤◌, Bool, true, false, cond, List, [], ◌++◌, length, take, drop, Some, None, sym, refl, ap, ◌∙◌, arith, length-append, length-drop}
+use Rattle.std.proofs.lemmas.List.{drop_all, drop-drop, drop-append-le, drop-take, get_or-take, get_or_append_left, length-take-le, take_all, take-append-drop, take-append-le}
 use Rattle.std.proofs.lemmas.Bool.{le-leb, leb-true}
 use Rattle.records.specs.Bytes.{two_at}
 use Rattle.records.specs.Frames.{Framed, first_frame, framed, head_kind, head_length, whole}
@@ -76,3 +76,28 @@ framed_joined bs f e =
       payload_is = kept;
       alone = framed_some front f.kind n f.payload [] length_kept kind_kept (omega arith) (kept ∙ sym (take_all n (drop 4 front) (omega (arith, length-drop 4 front)))) (sym (drop_all n (drop 4 front) (omega (arith, length-drop 4 front))));
     }
+
+-- a number of two bytes with more bytes behind it
+two_at_more : (bs later : List ℕ) (i : ℕ) → i + 1 < length bs → two_at (bs ++ later) i ≡ two_at bs i
+two_at_more bs later i h =
+    let here : i < length bs = omega arith in
+    rw (get_or_append_left bs later 0 i here, get_or_append_left bs later 0 (i + 1) h)
+
+-- a frame with more bytes behind it
+abbrev pub more_behind : Framed → List ℕ → Framed
+more_behind f later = record { kind = f.kind; payload = f.payload; rest = f.rest ++ later }
+
+-- bytes that come later do not change the first record
+pub framed_more : (bs later : List ℕ) (f : Framed) → framed bs ≡ Some f → framed (bs ++ later) ≡ Some (more_behind f later)
+framed_more bs later f e =
+    let one = framed_first bs f e in
+    let n : ℕ = head_length bs in
+    let fits : 4 + n ≤ length bs = one.fits in
+    let long = length-append bs later in
+    let after = length-drop 4 bs in
+    let behind : drop 4 (bs ++ later) ≡ drop 4 bs ++ later = drop-append-le 4 bs later (omega arith) in
+    let payload : f.payload ≡ take n (drop 4 (bs ++ later)) =
+    sym (ap (λ (g : Framed). g.payload) one.is) ∙ sym (take-append-le n (drop 4 bs) later (omega arith)) ∙ ap (λ xs. take n xs) (sym behind) in
+    let rest : f.rest ++ later ≡ drop n (drop 4 (bs ++ later)) =
+    ap (λ (g : Framed). g.rest ++ later) (sym one.is) ∙ ap (λ xs. xs ++ later) (sym (drop-drop n 4 bs)) ∙ sym (drop-append-le n (drop 4 bs) later (omega arith)) ∙ ap (λ xs. drop n xs) (sym behind) in
+    framed_some (bs ++ later) f.kind n f.payload (f.rest ++ later) (sym (two_at_more bs later 0 (omega arith))) (sym (ap (λ (g : Framed). g.kind) one.is) ∙ sym (two_at_more bs later 2 (omega arith))) (omega arith) payload rest

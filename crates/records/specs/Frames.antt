@@ -1,8 +1,5 @@
 -- Where one record ends and the next begins.
-use Rattle.std.specs.Prelude.{◌≡◌, ℕ, ◌+◌, ◌<◌, Bool, cond, List, [], length, take, drop, Some, None, Ok, Err, Option, Result, nat_le}
-use Rattle.std.specs.Option.{ok_or}
-use Rattle.faults.specs.declared.ProgramFault.{ProgramFault}
-use Rattle.faults.specs.declared.ProgramFault.TheVariants.{FileEnds}
+use Rattle.std.specs.Prelude.{◌≡◌, ℕ, ◌+◌, Bool, cond, List, length, take, drop, Some, None, Option, nat_le}
 use Rattle.records.specs.Bytes.{two_at}
 use Rattle.records.specs.declared.frames.Frame.{Frame}
 use Rattle.records.specs.declared.left.Frames.{Frames}
@@ -39,28 +36,14 @@ abbrev pub frame_model : Option Frame → Option Framed
 frame_model None = None
 frame_model (Some f) = Some (record { kind = f.kind; payload = f.payload.now; rest = f.rest.now })
 
--- the record at the front of the bytes, or that they end in it
-abbrev pub front : List ℕ → Result Framed ProgramFault
-front bs = ok_or (framed bs) FileEnds
-
--- what the code found at a place
-abbrev pub found : Result Frame ProgramFault → Result Framed ProgramFault
-found (Ok f) = Ok (record { kind = f.kind; payload = f.payload.now; rest = f.rest.now })
-found (Err fault) = Err fault
-
--- the bytes behind the record at the front; none where the bytes end in it
-abbrev pub behind : List ℕ → List ℕ
-behind bs = cond (whole bs) (drop (4 + head_length bs) bs) []
-
 -- the record at the front was given with its place, and those behind it are left
 pub record Gives (s : Frames) (p : Placed) (t : Frames) : Type 0 where
-  pub some : 0 < length s.rest.now
+  pub frame : framed s.rest.now ≡ frame_model (Some p.frame)
   pub place : p.place ≡ s.place
-  pub frame : found p.frame ≡ front s.rest.now
-  pub behind : t.rest.now ≡ behind s.rest.now
+  pub behind : t.rest.now ≡ p.frame.rest.now
   pub end : t.place + length t.rest.now ≡ s.place + length s.rest.now
 
--- what a call for the next record gives: none only where no byte is left, and then nothing changes
+-- what a call for the next record gives: none only where no whole record is left, and then nothing changes
 abbrev pub NextGives : Frames → Option Placed → Frames → Type 0
-NextGives s None t = (s.rest.now ≡ []) × (t ≡ s)
+NextGives s None t = (framed s.rest.now ≡ None) × (t ≡ s)
 NextGives s (Some p) t = Gives s p t

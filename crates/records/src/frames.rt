@@ -1,10 +1,9 @@
 // Where one record ends and the next begins.
-ghost use Rattle.std.specs.Prelude.{◌≡◌, ◌+◌, drop, length, min};
+ghost use Rattle.std.specs.Prelude.{◌≡◌, ◌+◌, ◌^◌, ◌≤◌, drop, length, min};
 ghost use Rattle.std.specs.Iterator.{at_most};
 ghost use Rattle.records.specs.Frames.{frame_model, framed, NextGives};
 
 use crate::left::Frames;
-use faults::ProgramFault;
 
 // A record's kind and payload, and the bytes after it.
 #[derive(Clone, Copy)]
@@ -33,11 +32,11 @@ pub fn next_frame(input: &[u8]) -> Option<Frame<'_>>
     })
 }
 
-// A record of a file, and the place where it begins; or that the file ends in it.
+// A record of a file, and the place where it begins.
 #[derive(Clone, Copy)]
 pub struct Placed<'a> {
     pub place: usize,
-    pub frame: Result<Frame<'a>, ProgramFault>,
+    pub frame: Frame<'a>,
 }
 
 impl<'a> Frames<'a> {
@@ -50,6 +49,21 @@ impl<'a> Frames<'a> {
             place: 0,
             rest: input,
         }
+    }
+
+    // The records of a file from a place on, of which these are the next bytes; `None` where the places after them cannot be counted.
+    pub fn at(place: usize, bytes: &'a [u8]) -> Option<Frames<'a>>
+        ensures { elim result [ Some s ↦ (s.place ≡ place) × (s.rest.now ≡ bytes.now) | None ↦ 2 ^ 64 ≤ place + length bytes.now ] }
+    {
+        place.checked_add(bytes.len())?;
+        Some(Frames { place, rest: bytes })
+    }
+
+    // The place of the first byte that is left.
+    pub fn place(&self) -> usize
+        ensures { result ≡ self.now.place }
+    {
+        self.place
     }
 
     // The bytes that are left.
@@ -72,6 +86,7 @@ impl<'a> Frames<'a> {
     }
 }
 
+// The whole records, in their order; a last one in which the bytes end is left.
 impl<'a> Iterator for Frames<'a> {
     type Item = Placed<'a>;
 
@@ -80,31 +95,12 @@ impl<'a> Iterator for Frames<'a> {
     ghost remaining = { λ s. at_most (length s.rest.now) };
 
     fn next(&mut self) -> Option<Placed<'a>> {
-        if self.rest.is_empty() {
-            return None;
-        }
+        let frame = next_frame(self.rest)?;
         let place = self.place;
-        match next_frame(self.rest) {
-            Some(frame) => {
-                *self = Frames {
-                    place: place + 4 + frame.payload.len(),
-                    rest: frame.rest,
-                };
-                Some(Placed {
-                    place,
-                    frame: Ok(frame),
-                })
-            }
-            None => {
-                *self = Frames {
-                    place: place + self.rest.len(),
-                    rest: &[],
-                };
-                Some(Placed {
-                    place,
-                    frame: Err(ProgramFault::FileEnds),
-                })
-            }
-        }
+        *self = Frames {
+            place: place + 4 + frame.payload.len(),
+            rest: frame.rest,
+        };
+        Some(Placed { place, frame })
     }
 }

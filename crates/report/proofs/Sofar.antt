@@ -1,20 +1,15 @@
--- How far a run has come: what a turn of its loop keeps, and what it comes to.
-use Rattle.std.proofs.Common.{◌≡◌, ℕ, zero, suc, ◌+◌, ◌<◌, ◌≤◌, ◌⊎◌, Bool, true, false, cond, List, [], ◌∷◌, ◌++◌, length, take, drop, OnErr, Some, None, Ok, Err, Option, Result, sym, refl, ap, ◌∙◌, subst, inl, inr, append_assoc, append-nil, min, arith, length-drop}
-use Rattle.std.proofs.lemmas.List.{flat_map_more, nil_from_length}
+-- How far a run has come: what a record, a stretch of readings and the end make of it.
+use Rattle.std.proofs.Common.{◌≡◌, ℕ, zero, suc, ◌+◌, ◌≤◌, ◌⊎◌, Bool, true, false, cond, List, [], ◌∷◌, ◌++◌, length, take, drop, OnErr, Some, None, Ok, Err, Option, Result, sym, refl, ap, ◌∙◌, subst, inl, inr, append_assoc, append-nil, min, arith, length-append, length-drop}
+use Rattle.std.proofs.lemmas.List.{flat_map_more}
 use Rattle.std.specs.List.{flat_map}
-use Rattle.std.specs.Option.{ok_or}
 use Rattle.std.specs.declared.alloc.AllocError.{AllocError}
-use Rattle.faults.specs.declared.ProgramFault.{ProgramFault}
-use Rattle.faults.specs.declared.ProgramFault.TheVariants.{FileEnds}
-use Rattle.records.specs.Frames.{Framed, framed, first_frame, head_kind, head_length, whole, found, behind, Gives}
+use Rattle.records.specs.Frames.{Framed, framed, first_frame, head_kind, whole, Gives}
 use Rattle.records.specs.declared.left.Frames.{Frames}
 use Rattle.records.specs.declared.frames.Placed.{Placed}
 use Rattle.records.specs.Records.{decoded}
-use Rattle.records.proofs.Heads.{framed_parts, framed_joined}
-use Rattle.records.proofs.First.{reads}
-use Rattle.answers.specs.Answers.{refusal_text}
+use Rattle.records.proofs.Heads.{framed_parts, framed_joined, framed_more}
+use Rattle.records.proofs.First.{reads, reading_more}
 use Rattle.answers.specs.Said.Said.{nothing}
-use Rattle.answers.proofs.Said.{refusal_some}
 use Rattle.desk.specs.declared.steps.Desk.{Desk}
 use Rattle.desk.specs.State.{State, outset}
 use Rattle.desk.specs.Outcome.{Outcome, accepted}
@@ -22,30 +17,13 @@ use Rattle.desk.specs.Stretch.{ReadingAccepted, NextAccepted, Stretch, ReadOn}
 use Rattle.desk.specs.Means.{Means}
 use Rattle.report.specs.Runs.{Entry, Trace, says, read_of, handled, outcome, answer_text, entry_text, first, entry_at, traced, trace, end_text, trace_text, report_text, program_memory}
 use Rattle.report.specs.Laws.{Follows, ReadsPrices, NeedsMemory}
+use Rattle.report.specs.Going.{onto, Going, Stands, GoesOn}
 use Rattle.report.proofs.Traces.{traced_some, traced_none}
 
--- records before a trace
-abbrev onto : List Entry → Trace → Trace
-onto es t = record { entries = es ++ t.entries; stop = t.stop; rest = t.rest }
-
--- the records before `rest`, which begins at place `at`, have printed out and lead to this state
-pub record Going (all out : List ℕ) (state : State) (at : ℕ) (rest : List ℕ) : Type 0 where
-  pub past : List Entry
-  pub fuel : ℕ
-  pub enough : length rest ≤ fuel
-  pub place : at + length rest ≡ length all
-  pub entries : trace all ≡ onto past (traced fuel state at rest)
-  pub text : out ≡ flat_map entry_text past
-
--- so far the run goes on and the desk stands where its records lead, or the file has ended in a record and all was printed
-abbrev pub Sofar : List ℕ → List ℕ → Desk → ℕ → List ℕ → Type 0
-Sofar all out d at rest = ((s : State) × Means d s × Going all out s at rest) ⊎ ((rest ≡ []) × (out ≡ report_text all))
-
--- at the beginning
-pub start : (all out : List ℕ) (d : Desk) (s : Frames) → out ≡ [] → Means d outset → s.place ≡ 0 → s.rest.now ≡ all → Sofar all out d s.place s.rest.now
-start all out d s e means place rest =
-    let begun : Going all out outset 0 all = record { past = []; fuel = length all; enough = omega arith; place = omega arith; entries = refl; text = e } in
-    subst (λ (n : ℕ). Sofar all out d n s.rest.now) (sym place) (subst (Sofar all out d 0) (sym rest) (inl (outset, means, begun)))
+-- what holds holds at an error
+pub at_error : {T : Type 0} (r : Result T AllocError) (N : Type 0) → N → OnErr r N
+at_error (Ok x) N n = tt
+at_error (Err y) N n = n
 
 -- two texts that are nothing together are nothing each
 no_front : (xs ys : List ℕ) → xs ++ ys ≡ [] → xs ≡ []
@@ -139,11 +117,7 @@ module _ (all out : List ℕ) (st : State) (at : ℕ) (rest : List ℕ) (sofar :
       inl (λ none. some (ap (λ (o : Outcome State). answer_text at o.answer) (sym outcome_is) ∙ nothing_in sofar.past next follows.0 _ (ap (λ es. flat_map entry_text es ++ end_text (trace all).stop (trace all).rest) (sym follows.1) ∙ none)))
   wants (inr brings) = inr (sofar.past, next, follows, subst ReadsPrices (sym (says_framed at st rest f framed_so)) brings)
 
--- the end of a file that ends in a record
-ended_by : (text out : List ℕ) (at : ℕ) (rest : List ℕ) → 0 < length rest → text ≡ out ++ end_text at rest → out ++ refusal_text at 31 ≡ text
-ended_by text out at [] some e = absurd (omega arith)
-ended_by text out at (x ∷ rest) some e = sym e
-
+-- what is printed at the end of a file, from what is left of it
 module _ (all out : List ℕ) (st : State) (at : ℕ) (rest : List ℕ) (sofar : Going all out st at rest) (none : framed rest ≡ None) where
   -- where no whole record follows, the text is that of the records so far and of the end
   text_so : report_text all ≡ out ++ end_text at rest
@@ -152,106 +126,120 @@ module _ (all out : List ℕ) (st : State) (at : ℕ) (rest : List ℕ) (sofar :
       ∙ ap (λ es. flat_map entry_text es ++ end_text at rest) (append-nil sofar.past)
       ∙ ap (λ o. o ++ end_text at rest) (sym sofar.text)
 
-  -- in a record that is cut short
-  pub ended : 0 < length rest → out ++ refusal_text at 31 ≡ report_text all
-  ended some = ended_by (report_text all) out at rest some text_so
+  -- where memory is wanting for the end
+  wants_end : (end_text at rest ≡ [] → ⊥) → NeedsMemory all
+  wants_end some = inl (λ empty. some (no_back out (end_text at rest) (sym text_so ∙ empty)))
 
-  -- where memory is wanting for that line
-  pub wants_end : 0 < length rest → NeedsMemory all
-  wants_end some = inl (λ empty. refusal_some at 31 (no_back out (refusal_text at 31) (ended some ∙ empty)))
+-- the whole file was printed
+pub finished : (all out out' : List ℕ) (d : Desk) (at : ℕ) (rest : List ℕ) → Stands all out d at rest → framed rest ≡ None → out' ≡ out ++ end_text at rest → out' ≡ report_text all
+finished all out out' d at rest (st, means, sofar) none e = e ∙ sym (text_so all out st at rest sofar none)
 
--- what is behind the record at the front
-behind_some : (bs : List ℕ) (b : Bool) (f : Framed) → whole bs ≡ b → cond b (Some (first_frame bs)) None ≡ Some f → cond b (drop (4 + head_length bs) bs) [] ≡ f.rest
-behind_some bs false f w e = let z : ◌≡◌ {A = ℕ} 0 1 = cc in absurd (omega arith)
-behind_some bs true f w e = let q : first_frame bs ≡ f = cc in ap (λ (g : Framed). g.rest) q
+-- or there was no memory for its end
+pub no_end : (all out : List ℕ) (d : Desk) (at : ℕ) (rest : List ℕ) → Stands all out d at rest → framed rest ≡ None → (end_text at rest ≡ [] → ⊥) → NeedsMemory all
+no_end all out d at rest (st, means, sofar) none some = wants_end all out st at rest sofar none some
 
-behind_none : (bs : List ℕ) (b : Bool) → whole bs ≡ b → cond b (Some (first_frame bs)) None ≡ None → cond b (drop (4 + head_length bs) bs) [] ≡ []
-behind_none bs false w e = refl
-behind_none bs true w e = let z : ◌≡◌ {A = ℕ} 0 1 = cc in absurd (omega arith)
+-- at the beginning of a file, of which more comes later
+pub start : (all out : List ℕ) (d : Desk) (at : ℕ) (rest later : List ℕ) → out ≡ [] → Means d outset → at ≡ 0 → rest ++ later ≡ all → Stands all out d at (rest ++ later)
+start all out d at rest later e means place whole =
+    let begun : Going all out outset 0 all = record { past = []; fuel = length all; enough = omega arith; place = omega arith; entries = refl; text = e } in
+    (outset, means, subst (λ (n : ℕ). Going all out outset n (rest ++ later)) (sym place) (subst (Going all out outset 0) (sym whole) begun))
 
-module _ (all out : List ℕ) (st : State) (at : ℕ) (rest : List ℕ) (sofar : Going all out st at rest) (some : 0 < length rest) where
-  -- what comes of what was found there
-  abbrev comes : Option Framed → Outcome State
-  comes o = handled st (read_of (ok_or o FileEnds))
+-- a file of which nothing comes later
+pub no_more : (all out : List ℕ) (d : Desk) (at : ℕ) (rest : List ℕ) → Stands all out d at (rest ++ []) → Stands all out d at rest
+no_more all out d at rest stands = subst (Stands all out d at) (append-nil rest) stands
 
-  -- after it was served
-  served : (o : Option Framed) → framed rest ≡ o → (out' : List ℕ) (d' : Desk) (at' : ℕ) (rest' : List ℕ) → Means d' (comes o).after → out' ≡ out ++ answer_text at (comes o).answer →
-      rest' ≡ behind rest → at' + length rest' ≡ at + length rest → Sofar all out' d' at' rest'
-  served (Some f) is out' d' at' rest' means e er ea =
-      let same : rest' ≡ f.rest = er ∙ behind_some rest (whole rest) f refl is in
-      let p = (framed_parts rest f is).rest_length in
-      let l = ap (λ (bs : List ℕ). length bs) same in
-      let place : at' ≡ at + (4 + length f.payload) = omega arith in
-      inl ((comes (Some f)).after, means, subst (λ (n : ℕ). Going all out' (comes (Some f)).after n rest') (sym place) (subst (Going all out' (comes (Some f)).after (at + (4 + length f.payload))) (sym same) (one_more all out st at rest sofar f is out' e)))
-  served None is out' d' at' rest' means e er ea = inr (er ∙ behind_none rest (whole rest) refl is, e ∙ ended all out st at rest sofar is some)
+-- a run over a file that is there whole
+module _ (all out : List ℕ) (d : Desk) (s : Frames) (e : out ≡ []) (means : Means d outset) (place : s.place ≡ 0) (rest : s.rest.now ≡ all) where
+  begun : Stands all out d s.place (s.rest.now ++ [])
+  begun = start all out d s.place s.rest.now [] e means place (append-nil s.rest.now ∙ rest)
 
-  -- and where memory was wanting for it
-  wanted : (o : Option Framed) → framed rest ≡ o → ((answer_text at (comes o).answer ≡ [] → ⊥) ⊎ ReadsPrices (read_of (ok_or o FileEnds))) → NeedsMemory all
-  wanted (Some f) is w = wants all out st at rest sofar f is w
-  wanted None is w = wants_end all out st at rest sofar is some
+  -- memory was wanting for one of its records
+  pub record_wants : ((all later : List ℕ) → Stands all out d s.place (s.rest.now ++ later) → NeedsMemory all) → NeedsMemory all
+  record_wants wanting = wanting all [] begun
 
-module _ (all out : List ℕ) (d : Desk) (s t : Frames) (p : Placed) (gives : Gives s p t) where
-  -- the loop goes on after a record
-  pub goes_on : (out' : List ℕ) (d' : Desk) → Sofar all out d s.place s.rest.now →
-      ((st : State) → Means d st → Means d' (handled st (read_of (found p.frame))).after) → ((st : State) → Means d st → out' ≡ out ++ answer_text p.place (handled st (read_of (found p.frame))).answer) →
-      Sofar all out' d' t.place t.rest.now
-  goes_on out' d' (inl (st, means, sofar)) stands text =
-      served all out st s.place s.rest.now sofar gives.some (framed s.rest.now) refl out' d' t.place t.rest.now
-      (subst (λ (f : Result Framed ProgramFault). Means d' (handled st (read_of f)).after) gives.frame (stands st means))
-      (text st means ∙ ap (λ (n : ℕ). out ++ answer_text n (handled st (read_of (found p.frame))).answer) gives.place
-      ∙ ap (λ (f : Result Framed ProgramFault). out ++ answer_text s.place (handled st (read_of f)).answer) gives.frame)
-      gives.behind gives.end
-  goes_on out' d' (inr over) stands text = absurd (omega (arith, gives.some, ap (λ (bs : List ℕ). length bs) over.0))
+  module _ (out' : List ℕ) (d' : Desk) (t : Frames) (goes : GoesOn out d s.place s.rest.now out' d' t.place t.rest.now) (none : framed t.rest.now ≡ None) (at : ℕ) (left : List ℕ) (here : at ≡ t.place)
+      (is : left ≡ t.rest.now) where
+    stands : Stands all out' d' at left
+    stands =
+        let there : Stands all out' d' t.place t.rest.now = no_more all out' d' t.place t.rest.now (goes all [] begun) in
+        subst (λ (n : ℕ). Stands all out' d' n left) (sym here) (subst (Stands all out' d' t.place) (sym is) there)
 
-  -- and where memory was wanting
-  pub stops_for : Sofar all out d s.place s.rest.now →
-      ((st : State) → Means d st → (answer_text p.place (handled st (read_of (found p.frame))).answer ≡ [] → ⊥) ⊎ ReadsPrices (read_of (found p.frame))) → NeedsMemory all
-  stops_for (inl (st, means, sofar)) w =
-      wanted all out st s.place s.rest.now sofar gives.some (framed s.rest.now) refl
-      (subst (λ (f : Result Framed ProgramFault). (answer_text s.place (handled st (read_of f)).answer ≡ [] → ⊥) ⊎ ReadsPrices (read_of f)) gives.frame
-      (subst (λ (n : ℕ). (answer_text n (handled st (read_of (found p.frame))).answer ≡ [] → ⊥) ⊎ ReadsPrices (read_of (found p.frame))) gives.place (w st means)))
-  stops_for (inr over) w = absurd (omega (arith, gives.some, ap (λ (bs : List ℕ). length bs) over.0))
+    -- or for its end
+    pub end_wants : (end_text at left ≡ [] → ⊥) → NeedsMemory all
+    end_wants some = no_end all out' d' at left stands (ap framed is ∙ none) some
+
+    -- or all was printed
+    pub all_printed : (text : List ℕ) → text ≡ out' ++ end_text at left → text ≡ report_text all
+    all_printed text ends = finished all out' text d' at left stands (ap framed is ∙ none) ends
+
+module _ (out : List ℕ) (d : Desk) (s t : Frames) (p : Placed) (gives : Gives s p t) where
+  -- the frame that was found, with what comes later behind it
+  abbrev found : List ℕ → Framed
+  found later = record { kind = p.frame.kind; payload = p.frame.payload.now; rest = p.frame.rest.now ++ later }
+
+  framed_so : (later : List ℕ) → framed (s.rest.now ++ later) ≡ Some (found later)
+  framed_so later = framed_more s.rest.now later _ gives.frame
+
+  -- the run goes on after a record
+  pub serves : (out' : List ℕ) (d' : Desk) → ((st : State) → Means d st → Means d' (handled st (read_of p.frame)).after) →
+      ((st : State) → Means d st → out' ≡ out ++ answer_text p.place (handled st (read_of p.frame)).answer) → GoesOn out d s.place s.rest.now out' d' t.place t.rest.now
+  serves out' d' stands text all later (st, means, sofar) =
+      let now : Going all out' (handled st (read_of p.frame)).after (s.place + (4 + length p.frame.payload.now)) (p.frame.rest.now ++ later) =
+      one_more all out st s.place (s.rest.now ++ later) sofar (found later) (framed_so later) out' (text st means ∙ ap (λ (n : ℕ). out ++ answer_text n (handled st (read_of p.frame)).answer) gives.place) in
+      let l = (framed_parts s.rest.now _ gives.frame).rest_length in
+      let same = ap (λ (xs : List ℕ). length xs) gives.behind in
+      let place : t.place ≡ s.place + (4 + length p.frame.payload.now) = omega (arith, gives.end) in (
+        (handled st (read_of p.frame)).after,
+        stands st means,
+        subst (λ (n : ℕ). Going all out' (handled st (read_of p.frame)).after n (t.rest.now ++ later)) (sym place)
+            (subst (λ (xs : List ℕ). Going all out' (handled st (read_of p.frame)).after (s.place + (4 + length p.frame.payload.now)) (xs ++ later)) (sym gives.behind) now),
+      )
+
+  -- or memory was wanting
+  pub stops_for : ((st : State) → Means d st → (answer_text p.place (handled st (read_of p.frame)).answer ≡ [] → ⊥) ⊎ ReadsPrices (read_of p.frame)) →
+      (all later : List ℕ) → Stands all out d s.place (s.rest.now ++ later) → NeedsMemory all
+  stops_for w all later (st, means, sofar) =
+      wants all out st s.place (s.rest.now ++ later) sofar (found later) (framed_so later)
+      (subst (λ (n : ℕ). (answer_text n (handled st (read_of p.frame)).answer ≡ [] → ⊥) ⊎ ReadsPrices (read_of p.frame)) gives.place (w st means))
+
+  -- so of a loop that had come so far
+  pub wanting : {T : Type 0} (r : Result T AllocError) (out0 : List ℕ) (d0 : Desk) (at0 : ℕ) (rest0 : List ℕ) → GoesOn out0 d0 at0 rest0 out d s.place s.rest.now →
+      ((st : State) → Means d st → (answer_text p.place (handled st (read_of p.frame)).answer ≡ [] → ⊥) ⊎ ReadsPrices (read_of p.frame)) →
+      OnErr r ((all later : List ℕ) → Stands all out0 d0 at0 (rest0 ++ later) → NeedsMemory all)
+  wanting r out0 d0 at0 rest0 goes w =
+      at_error r ((all later : List ℕ) → Stands all out0 d0 at0 (rest0 ++ later) → NeedsMemory all) (λ all later stands. stops_for w all later (goes all later stands))
 
 -- a reading that is accepted prints nothing, and the run goes on behind it
-quiet_one : (all out : List ℕ) (st : State) (at : ℕ) (rest : List ℕ) (st' : State) (rest' : List ℕ) → Going all out st at rest → NextAccepted ReadingAccepted st rest st' rest' → (at' : ℕ) × Going all out st' at' rest'
-quiet_one all out st at rest st' rest' sofar next =
-    let one = reads rest next.next next.first in
+quiet_one : (all out : List ℕ) (st : State) (at : ℕ) (rest later : List ℕ) (st' : State) (rest' : List ℕ) → Going all out st at (rest ++ later) → NextAccepted ReadingAccepted st rest st' rest' →
+    (at' : ℕ) × Going all out st' at' (rest' ++ later)
+quiet_one all out st at rest later st' rest' sofar next =
+    let one = reads (rest ++ later) _ (reading_more rest later next.next next.first) in
     let comes : handled st (decoded one.frame.kind one.frame.payload) ≡ accepted nothing st' = ap (handled st) one.says ∙ next.accepts program_memory in
     let text : out ≡ out ++ answer_text at (handled st (decoded one.frame.kind one.frame.payload)).answer =
     sym (append-nil out) ∙ ap (λ (o : Outcome State). out ++ answer_text at o.answer) (sym comes) in (
       at + (4 + length one.frame.payload),
-      subst (λ (bs : List ℕ). Going all out st' (at + (4 + length one.frame.payload)) bs) (sym (next.behind ∙ one.behind))
+      subst (λ (bs : List ℕ). Going all out st' (at + (4 + length one.frame.payload)) bs) (sym (ap (λ (xs : List ℕ). xs ++ later) next.behind ∙ one.behind))
           (subst (λ (o : Outcome State). Going all out o.after (at + (4 + length one.frame.payload)) one.frame.rest) comes
-          (one_more all out st at rest sofar one.frame one.framed_so out text)),
+          (one_more all out st at (rest ++ later) sofar one.frame one.framed_so out text)),
     )
 
 -- so do all those of a stretch
-quiet : (n : ℕ) (all out : List ℕ) (st : State) (at : ℕ) (rest : List ℕ) (st' : State) (rest' : List ℕ) → Going all out st at rest → Stretch ReadingAccepted n st rest st' rest' → (at' : ℕ) × Going all out st' at' rest'
-quiet zero all out st at rest st' rest' sofar h = (at, subst (λ (x : State). Going all out x at rest') (sym h.0) (subst (Going all out st at) (sym h.1) sofar))
-quiet (suc n) all out st at rest st' rest' sofar h =
-    let before = quiet n all out st at rest h.0 h.1 sofar h.2 in
-    quiet_one all out h.0 before.0 h.1 st' rest' before.1 h.3
+quiet : (n : ℕ) (all out : List ℕ) (st : State) (at : ℕ) (rest later : List ℕ) (st' : State) (rest' : List ℕ) → Going all out st at (rest ++ later) → Stretch ReadingAccepted n st rest st' rest' →
+    (at' : ℕ) × Going all out st' at' (rest' ++ later)
+quiet zero all out st at rest later st' rest' sofar h =
+    (at, subst (λ (x : State). Going all out x at (rest' ++ later)) (sym h.0) (subst (λ (xs : List ℕ). Going all out st at (xs ++ later)) (sym h.1) sofar))
+quiet (suc n) all out st at rest later st' rest' sofar h =
+    let before = quiet n all out st at rest later h.0 h.1 sofar h.2 in
+    quiet_one all out h.0 before.0 h.1 later st' rest' before.1 h.3
 
--- the loop goes on after a stretch of them
-pub reads_on : (all out : List ℕ) (d d' : Desk) (at : ℕ) (rest : List ℕ) (count at' : ℕ) (rest' : List ℕ) → Sofar all out d at rest → count ≤ length rest →
-    ((s : State) → Means d s → ReadOn ReadingAccepted s rest (drop count rest) (Means d')) → at' ≡ at + min count (length rest) → rest' ≡ drop count rest → Sofar all out d' at' rest'
-reads_on all out d d' at rest count at' rest' (inl (st, means, sofar)) within read place behind =
+-- the run goes on after a stretch of them
+pub reads_on : (out : List ℕ) (d d' : Desk) (at : ℕ) (rest : List ℕ) (count at' : ℕ) (rest' : List ℕ) → count ≤ length rest →
+    ((s : State) → Means d s → ReadOn ReadingAccepted s rest (drop count rest) (Means d')) → at' ≡ at + min count (length rest) → rest' ≡ drop count rest → GoesOn out d at rest out d' at' rest'
+reads_on out d d' at rest count at' rest' within read place behind all later (st, means, sofar) =
     let r = read st means in
-    let q = quiet r.readings all out st at rest r.after (drop count rest) sofar r.stretch in
+    let q = quiet r.readings all out st at rest later r.after (drop count rest) sofar r.stretch in
     let l = length-drop count rest in
+    let l1 = length-append rest later in
+    let l2 = length-append (drop count rest) later in
     let here : q.0 ≡ at' = omega (arith, sofar.place, q.1.place) in
-    inl (r.after, r.stands, subst (λ (n : ℕ). Going all out r.after n rest') here (subst (Going all out r.after q.0) (sym behind) q.1))
-reads_on all out d d' at rest count at' rest' (inr over) within read place behind =
-    let none : drop count rest ≡ [] = nil_from_length (drop count rest) (omega (arith, length-drop count rest, ap (λ (xs : List ℕ). length xs) over.0)) in
-    inr (behind ∙ none, over.1)
-
--- at the end of the file
-pub finished : (all out : List ℕ) (d : Desk) (at : ℕ) (rest : List ℕ) → Sofar all out d at rest → rest ≡ [] → out ≡ report_text all
-finished all out d at [] (inl (st, means, sofar)) e = sym (text_so all out st at [] sofar refl ∙ append-nil out)
-finished all out d at (x ∷ rest) (inl (st, means, sofar)) e = let z : ◌≡◌ {A = ℕ} 0 1 = cc in absurd (omega arith)
-finished all out d at rest (inr over) e = over.1
-
--- what holds holds at an error
-pub at_error : {T : Type 0} (r : Result T AllocError) (N : Type 0) → N → OnErr r N
-at_error (Ok x) N n = tt
-at_error (Err y) N n = n
+    (r.after, r.stands, subst (λ (n : ℕ). Going all out r.after n (rest' ++ later)) here (subst (λ (xs : List ℕ). Going all out r.after q.0 (xs ++ later)) (sym behind) q.1))

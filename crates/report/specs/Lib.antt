@@ -1,3 +1,4 @@
 pub mod Runs
 pub mod Past
 pub mod Laws
+pub mod Going

@@ -4,7 +4,8 @@ use Rattle.std.specs.List.{flat_map}
 use Rattle.faults.specs.declared.ProgramFault.{ProgramFault}
 use Rattle.faults.specs.declared.ProgramFault.TheVariants.{FileEnds}
 use Rattle.faults.specs.Numbers.{program_number}
-use Rattle.records.specs.Frames.{Framed, found, framed, head_kind}
+use Rattle.records.specs.Frames.{Framed, framed, head_kind}
+use Rattle.records.specs.declared.frames.Frame.{Frame}
 use Rattle.records.specs.declared.frames.Placed.{Placed}
 use Rattle.records.specs.Records.{Read, decoded}
 use Rattle.answers.specs.Said.{Said}
@@ -27,19 +28,18 @@ pub record Entry : Type 0 where
 abbrev pub says : List ℕ → Read
 says bytes = decoded (head_kind bytes) (drop 4 bytes)
 
--- what a record says that was found in a file, or that the file ends in it
-abbrev pub read_of : Result Framed ProgramFault → Read
-read_of (Ok f) = decoded f.kind f.payload
-read_of (Err fault) = Err fault
+-- what a record says that was found in a file
+abbrev pub read_of : Frame → Read
+read_of f = decoded f.kind f.payload.now
 
 -- what comes of what a record says: a malformed one is refused
 abbrev pub handled : State → Read → Outcome State
 handled s (Ok said) = taken program_memory s said
 handled s (Err fault) = refused fault s
 
--- what comes of a record that was found, or of the end of the file in it
+-- what comes of a record that was found
 abbrev pub comes : State → Placed → Outcome State
-comes s p = handled s (read_of (found p.frame))
+comes s p = handled s (read_of p.frame)
 
 -- what comes of a record
 abbrev pub outcome : Entry → Outcome State

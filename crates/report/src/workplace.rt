@@ -1,6 +1,5 @@
 // The desk that a run works at.
 ghost use Rattle.std.specs.Prelude.{◌≡◌, ◌≤◌, ◌++◌, ◌⊎◌, ◌≢◌, [], drop, length, string_bytes, OnErr, OnOk};
-ghost use Rattle.records.specs.Frames.{found};
 ghost use Rattle.desk.specs.State.{State, outset};
 ghost use Rattle.desk.specs.Stretch.{ReadOn, ReadingAccepted};
 ghost use Rattle.desk.specs.Means.{Means, memory_of};
@@ -10,7 +9,6 @@ ghost use Rattle.report.specs.Laws.{Handled, ReadsPrices};
 use accounts::{Billing, Metering};
 use answers::{Answer, print_answer, print_refusal};
 use desk::{Desk, StepFault};
-use faults::ProgramFault;
 use portions::Slot;
 use records::{Frame, Placed, decode};
 use settlement::Line;
@@ -48,15 +46,10 @@ impl<'a> Workplace<'a> {
         }
     }
 
-    // Takes a record, or refuses that the file ends in it: its answer, or why it has none.
-    fn step(
-        &mut self,
-        heap: Global,
-        frame: Result<Frame<'_>, ProgramFault>,
-    ) -> Result<Answer, StepFault>
-        ensures { (s : State) → Means self.old.desk s → Handled s (read_of (found frame.entry)) result self.new.lines (Means self.new.desk) }
+    // Takes a record: its answer, or why it has none.
+    fn step(&mut self, heap: Global, frame: Frame<'_>) -> Result<Answer, StepFault>
+        ensures { (s : State) → Means self.old.desk s → Handled s (read_of frame.entry) result self.new.lines (Means self.new.desk) }
     {
-        let frame = frame?;
         let said = decode(frame.kind, frame.payload)?;
         self.desk.take(heap, &said, &mut self.lines)
     }
@@ -70,7 +63,7 @@ impl<'a> Workplace<'a> {
     ) -> Result<(), AllocError>
         ensures text { (s : State) → Means self.old.desk s → OnOk result (string_bytes out.new ≡ string_bytes out.old ++ answer_text placed.entry.place (comes s placed.entry).answer) }
         ensures stands { (s : State) → Means self.old.desk s → OnOk result (Means self.new.desk (comes s placed.entry).after) }
-        ensures wanting { (s : State) → Means self.old.desk s → OnErr result ((answer_text placed.entry.place (comes s placed.entry).answer ≢ []) ⊎ ReadsPrices (read_of (found placed.entry.frame))) }
+        ensures wanting { (s : State) → Means self.old.desk s → OnErr result ((answer_text placed.entry.place (comes s placed.entry).answer ≢ []) ⊎ ReadsPrices (read_of placed.entry.frame)) }
     {
         match self.step(heap, placed.frame) {
             Ok(answer) => print_answer(out, &answer, &self.lines),
