@@ -1,15 +1,28 @@
-//! The program's way in and out: a record file from standard input, its report to standard output.
+//! The program's way in and out: a record file from a source, its report to a sink.
 #![tactic(auto)]
 
-use report::report;
+ghost use Rattle.std.specs.Prelude.{IfSome, OnOk};
+ghost use Rattle.std.specs.Io.KnownBytes.{Appends};
+ghost use Rattle.report.specs.Runs.{report_text};
+
+use report::report_from;
+use std::alloc::Global;
 use std::io::{Read, Write};
 
-// Reads standard input to its end, and prints the report of what it holds.
-pub fn serve(rt: &HostRuntime) -> anyhow::Result<()> {
-    let heap = rt.alloc();
-    let mut input = Vec::new(heap);
-    rt.stdin().read_to_end(&mut input)?;
-    let text = report(heap, input.as_slice())?;
-    rt.stdout().write_all(text.as_bytes())?;
+// Prints the report of the record file that the source gives.
+pub fn serve_from<R: Read, W: Write>(
+    heap: Global,
+    source: &mut R,
+    sink: &mut W,
+) -> anyhow::Result<()>
+    ensures { OnOk result (IfSome (R.remaining source.old) (λ file. Appends (W.contents sink.old) (W.contents sink.new) (report_text file))) }
+{
+    let text = report_from(heap, source)?;
+    sink.write_all(text.as_bytes())?;
     Ok(())
+}
+
+// The same from standard input to standard output, of whose bytes nothing can be known.
+pub fn serve(rt: &HostRuntime) -> anyhow::Result<()> {
+    serve_from(rt.alloc(), &mut rt.stdin(), &mut rt.stdout())
 }

@@ -2,7 +2,8 @@
 use Rattle.std.proofs.Common.{◌≡◌, ℕ, suc, true, false, List, Some, None, Ok, Err, Result, sym, refl, ap, ◌∙◌, arith}
 use Rattle.faults.specs.declared.BookFault.{BookFault}
 use Rattle.records.specs.Readings.{FirstReading, first_reading}
-use Rattle.records.proofs.First.{Behind, behind_more, behind_none, reading_behind}
+use Rattle.records.specs.Frames.{Behind}
+use Rattle.records.proofs.First.{behind_more, behind_none, reading_behind}
 use Rattle.desk.specs.declared.book.OpenBook.{OpenBook}
 use Rattle.desk.specs.State.{BookState}
 use Rattle.desk.specs.Books.{hour_refusal, with_next_hour}

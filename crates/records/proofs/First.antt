@@ -1,8 +1,8 @@
 -- The record that a reading at the front of the bytes is.
-use Rattle.std.proofs.Common.{◌≡◌, ℕ, ◌+◌, ◌-◌, ◌<◌, ◌≤◌, List, ◌++◌, length, take, drop, Some, None, Ok, Err, Option, sym, refl, ap, ◌∙◌, arith, length-append}
+use Rattle.std.proofs.Common.{◌≡◌, ℕ, ◌+◌, ◌-◌, ◌<◌, ◌≤◌, List, ◌++◌, length, take, drop, Some, None, Ok, Err, Option, sym, refl, ap, ◌∙◌, subst, arith, length-append, length-drop}
 use Rattle.std.proofs.Math.Seq.{drop-append_seam}
-use Rattle.std.proofs.lemmas.List.{drop-drop}
-use Rattle.records.specs.Frames.{Framed, framed}
+use Rattle.std.proofs.lemmas.List.{drop-drop, take-append-drop}
+use Rattle.records.specs.Frames.{Framed, framed, Behind}
 use Rattle.records.specs.Records.{Read, decoded}
 use Rattle.records.specs.Records.Rec.{opens_metering, opens_billing, opens_book, gives_month_price, gives_hour_prices, reading, finish, settle, turn}
 use Rattle.records.specs.Readings.{FirstReading, if_reading, reading_in, first_reading}
@@ -48,11 +48,6 @@ fewer bs r e =
     let l = ap (λ (xs : List ℕ). length xs) one.behind in
     omega arith
 
--- `rest` is what is left of the bytes behind some of them
-pub record Behind (bs rest : List ℕ) : Type 0 where
-  pub within : length rest ≤ length bs
-  pub left : rest ≡ drop (length bs - length rest) bs
-
 -- a list behind a front
 behind_front : (front rest bs : List ℕ) → front ++ rest ≡ bs → rest ≡ drop (length bs - length rest) bs
 behind_front front rest bs e =
@@ -61,13 +56,24 @@ behind_front front rest bs e =
     let n : length bs - length rest ≡ length front = omega arith in
     sym (ap (λ n. drop n bs) n ∙ ap (λ xs. drop (length front) xs) (sym e) ∙ drop-append_seam front rest)
 
+-- the bytes behind the first record
+pub frame_behind : (bs : List ℕ) (f : Framed) → framed bs ≡ Some f → Behind bs f.rest
+frame_behind bs f e =
+    let p = (framed_parts bs f e).rest_length in
+    record { within = omega arith; left = behind_front _ f.rest bs (framed_joined bs f e).joined }
+
+-- those behind the first n
+pub drop_behind : (n : ℕ) (bs : List ℕ) → Behind bs (drop n bs)
+drop_behind n bs =
+    let l = length-drop n bs in
+    let long : length (take n bs ++ drop n bs) ≡ length bs = ap (λ (xs : List ℕ). length xs) (take-append-drop n bs) in
+    record { within = omega arith; left = behind_front (take n bs) (drop n bs) bs (take-append-drop n bs) }
+
 -- the bytes behind the first reading
 pub reading_behind : (bs : List ℕ) (r : FirstReading) → first_reading bs ≡ Some r → Behind bs r.rest
 reading_behind bs r e =
     let one = reads bs r e in
-    let whole = (framed_joined bs one.frame one.framed_so).joined in
-    let f = fewer bs r e in
-    record { within = omega arith; left = behind_front _ r.rest bs (ap (λ rest. take (4 + length one.frame.payload) bs ++ rest) one.behind ∙ whole) }
+    subst (Behind bs) (sym one.behind) (frame_behind bs one.frame one.framed_so)
 
 -- and those behind what is behind
 pub behind_more : (bs cs ds : List ℕ) → Behind bs cs → Behind cs ds → Behind bs ds

@@ -1,5 +1,5 @@
 -- Where one record ends and the next begins.
-use Rattle.std.specs.Prelude.{◌≡◌, ℕ, ◌+◌, Bool, cond, List, length, take, drop, Some, None, Option, nat_le}
+use Rattle.std.specs.Prelude.{◌≡◌, ℕ, ◌+◌, ◌-◌, ◌≤◌, Bool, cond, List, length, take, drop, Some, None, Option, nat_le}
 use Rattle.records.specs.Bytes.{two_at}
 use Rattle.records.specs.declared.frames.Frame.{Frame}
 use Rattle.records.specs.declared.left.Frames.{Frames}
@@ -47,3 +47,8 @@ pub record Gives (s : Frames) (p : Placed) (t : Frames) : Type 0 where
 abbrev pub NextGives : Frames → Option Placed → Frames → Type 0
 NextGives s None t = (framed s.rest.now ≡ None) × (t ≡ s)
 NextGives s (Some p) t = Gives s p t
+
+-- `rest` is what is left of the bytes behind some of them
+pub record Behind (bytes rest : List ℕ) : Type 0 where
+  pub within : length rest ≤ length bytes
+  pub left : rest ≡ drop (length bytes - length rest) bytes

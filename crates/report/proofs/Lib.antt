@@ -1,3 +1,4 @@
+pub mod Known
 pub mod Traces
 pub mod Framing
 pub mod Refusals
@@ -5,3 +6,4 @@ pub mod Rules
 pub mod Having
 pub mod Promising
 pub mod Sofar
+pub mod Coming

@@ -1,16 +1,15 @@
 // A run over a record file.
 ghost use Rattle.std.specs.Prelude.{◌≡◌, ◌≢◌, ◌++◌, [], List, ℕ, None, IfOk, OnErr, OnOk, string_bytes};
-ghost use Rattle.records.specs.Frames.{framed};
+ghost use Rattle.records.specs.Frames.{Behind, framed};
 ghost use Rattle.desk.specs.State.{outset};
 ghost use Rattle.desk.specs.Means.{Means};
 ghost use Rattle.report.specs.Runs.{end_text, report_text};
 ghost use Rattle.report.specs.Laws.{Continues, EveryByte, NeedsMemory, PromisesKept, RefusedAlone};
 ghost use Rattle.report.specs.Going.{GoesOn, Stands};
 
-use crate::workplace::{SLOTS, Workplace};
+use crate::workplace::{Slots, Workplace};
 use answers::print_refusal;
 use faults::ProgramFault;
-use portions::Slot;
 use records::Frames;
 use std::alloc::{AllocError, Global};
 
@@ -24,6 +23,7 @@ pub(crate) fn serve_all(
 ) -> Result<(), AllocError>
     ensures goes_on { OnOk result (GoesOn (string_bytes out.old) work.old.desk records.old.place records.old.rest.now (string_bytes out.new) work.new.desk records.new.place records.new.rest.now) }
     ensures all { OnOk result (framed records.new.rest.now ≡ None) }
+    ensures left { OnOk result (Behind records.old.rest.now records.new.rest.now) }
     ensures wanting { OnErr result ((all later : List ℕ) → Stands all (string_bytes out.old) work.old.desk records.old.place (records.old.rest.now ++ later) → NeedsMemory all) }
 {
     while let Some(placed) = records.next() {
@@ -67,10 +67,7 @@ pub fn report(heap: Global, input: &[u8]) -> Result<String, AllocError>
     ensures refused_alone { RefusedAlone input.now }
     ensures promises_kept { PromisesKept input.now }
 {
-    let mut first = [Slot::default(); SLOTS];
-    let mut second = [Slot::default(); SLOTS];
-    let mut third = [Slot::default(); SLOTS];
-    let mut deposits = [Slot::default(); SLOTS];
-    let mut work = Workplace::over(&mut first, &mut second, &mut third, &mut deposits);
+    let mut slots = Slots::default();
+    let mut work = Workplace::over(&mut slots);
     run(heap, &mut work, input)
 }

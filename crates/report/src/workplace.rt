@@ -15,7 +15,28 @@ use settlement::Line;
 use std::alloc::{AllocError, Global};
 
 // The slots of a store: for a month's portion and those of the twelve months before it.
-pub(crate) const SLOTS: usize = 13;
+const SLOTS: usize = 13;
+
+// The slots of the stores of a metering account, by zone, and of a billing account.
+#[derive(Clone, Copy)]
+pub(crate) struct Slots {
+    first: [Slot; SLOTS],
+    second: [Slot; SLOTS],
+    third: [Slot; SLOTS],
+    deposits: [Slot; SLOTS],
+}
+
+impl Default for Slots {
+    fn default() -> Slots {
+        let empty = [Slot::default(); SLOTS];
+        Slots {
+            first: empty,
+            second: empty,
+            third: empty,
+            deposits: empty,
+        }
+    }
+}
 
 // The room for the lines of a settlement: so many for each of three stores.
 const LINES: usize = 3 * SLOTS;
@@ -30,14 +51,15 @@ pub(crate) struct Workplace<'a> {
 
 impl<'a> Workplace<'a> {
     // A desk over the slots of the three stores of a metering account and of a billing account.
-    pub(crate) fn over(
-        first: &'a mut [Slot; SLOTS],
-        second: &'a mut [Slot; SLOTS],
-        third: &'a mut [Slot; SLOTS],
-        deposits: &'a mut [Slot; SLOTS],
-    ) -> Workplace<'a>
+    pub(crate) fn over(slots: &'a mut Slots) -> Workplace<'a>
         ensures { Means result.desk outset }
     {
+        let Slots {
+            first,
+            second,
+            third,
+            deposits,
+        } = slots;
         let metering = Metering::over(first, second, third);
         let billing = Billing::over(deposits);
         Workplace {
