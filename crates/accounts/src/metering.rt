@@ -1,4 +1,4 @@
-ghost use Rattle.std.specs.Prelude.{◌≡◌, ◌≤◌};
+ghost use Rattle.std.specs.Prelude.{◌≡◌};
 ghost use Rattle.settlement.specs.declared.states.MonthState.TheVariants.{Waiting};
 ghost use Rattle.accounts.specs.Bounds.{Few, Free, Together, Within};
 

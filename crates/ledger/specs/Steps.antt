@@ -76,30 +76,34 @@ module _ {T : Type 0} where
     lost = s.lost + losses kind s;
   }
 
-  -- the answer to an opening, and the ledger after it
+  -- the answer to an opening
   abbrev pub open_answer : Kind T → ℕ → ℕ → Ledger T → Result (Unit {0}) StoreFault
   open_answer kind slots month s = answers (refusal kind (open_for slots month) s) tt
 
+  -- the ledger after it
   abbrev pub open_after : Kind T → ℕ → ℕ → Ledger T → Ledger T
   open_after kind slots month s = becomes (refusal kind (open_for slots month) s) (opening month) s
 
-  -- the answer to an enter, and the ledger after it
+  -- the answer to an enter
   abbrev pub enter_answer : Kind T → ℕ → T → Ledger T → Result (Unit {0}) StoreFault
   enter_answer kind amount terms s = answers (refusal kind (enter amount terms) s) tt
 
+  -- the ledger after it
   abbrev pub enter_after : Kind T → ℕ → T → Ledger T → Ledger T
   enter_after kind amount terms s = becomes (refusal kind (enter amount terms) s) (entering amount terms s) s
 
-  -- the answer to a draw, and the ledger after it
+  -- the answer to a draw
   abbrev pub draw_answer : Kind T → Rule → ℕ → Ledger T → Result ℕ StoreFault
   draw_answer kind rule wanted s = answers (refusal kind (draw rule wanted) s) (sum (takings rule wanted s))
 
+  -- the ledger after it
   abbrev pub draw_after : Kind T → Rule → ℕ → Ledger T → Ledger T
   draw_after kind rule wanted s = becomes (refusal kind (draw rule wanted) s) (drawing (takings rule wanted s) s) s
 
-  -- the answer to a turn, and the ledger after it
+  -- the answer to a turn
   abbrev pub turn_answer : Kind T → Ledger T → Result (ℕ × ℕ) StoreFault
   turn_answer kind s = answers (refusal kind turn s) (refunds kind s, losses kind s)
 
+  -- the ledger after it
   abbrev pub turn_after : Kind T → Ledger T → Ledger T
   turn_after kind s = becomes (refusal kind turn s) (turning kind s) s

@@ -4,10 +4,11 @@ use Rattle.std.specs.List.{after_first, before_first, position_or_len}
 use Rattle.std.specs.Str.Parse.{IsNumeral, digits_value, without_leading_plus}
 use Rattle.calendar.specs.Calendar.{calendar_month_of, year_of}
 
--- the byte of a dash, and that of a plus sign
+-- the byte of a dash
 abbrev pub dash : ℕ
 dash = 45
 
+-- that of a plus sign
 abbrev pub plus : ℕ
 plus = 43
 

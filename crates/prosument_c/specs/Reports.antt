@@ -1,5 +1,5 @@
 -- A report in the caller's memory.
-use Rattle.std.specs.Prelude.{◌≡◌, ℕ, Bool, cond, List, ◌++◌, length, drop, nat_le}
+use Rattle.std.specs.Prelude.{◌≡◌, ℕ, cond, List, ◌++◌, length, drop, nat_le}
 use Rattle.report.specs.Runs.{report_text}
 use Rattle.report.specs.Laws.{NeedsMemory}
 

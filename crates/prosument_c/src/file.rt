@@ -1,6 +1,6 @@
 // Records appended to a file in the caller's memory: its bytes, and how many of them are in use.
 ghost use Rattle.std.specs.Prelude.{◌≡◌, [], ◌∷◌};
-ghost use Rattle.records.specs.Records.Rec.{finish, gives_hour_prices, gives_month_price, opens_billing, opens_book, opens_metering, reading, settle, turn};
+ghost use Rattle.records.specs.Records.Rec.{finish, gives_month_price, opens_billing, opens_book, opens_metering, reading, settle, turn};
 ghost use Rattle.prosument_c.specs.Files.{Appends, AppendsPrices, file_after, length_after, number_for};
 
 use crate::numbers::{DONE, NO_MEMORY, NO_ROOM, TOO_MANY_PRICES};

@@ -72,12 +72,6 @@ left_plain : {T : Type 0} (t : Slot → T) (ss : List Slot) → left_in (map (re
 left_plain t ss = total_map (λ p. p.left) (reads t) ss ∙ sym (total_map (λ p. p.left) plain ss)
 
 module _ {K T : Type 0} {k : Ghosts K T} (s : Store K T k) (rule : Rule) (law : LawfulRule rule) (w : ℕ) (ns : List ℕ) (gave : ns ≡ takings rule w (ledger_of k s)) where
-  -- one for each row in use
-  pub gave_each : length ns ≡ in_use s
-  gave_each =
-      ap length gave ∙ law.sized s.month w (lefts (ledger_of k s)) ∙ length-map (map (reads k.term) (held s.rows)) (λ p. p.left) ∙ length-map (held s.rows) (reads k.term) ∙
-      length-take-le (in_use s) (lent s) s.rows.within
-
   module _ (n : ℕ) (summed : n ≡ sum ns) (rows' : Rows) (front : map (reads k.term) (held rows') ≡ taking ns (map (reads k.term) (held s.rows))) where
     taken_all : n + left_in (kept rows') ≡ left_in (kept s.rows)
     taken_all =

@@ -44,10 +44,6 @@ any_has m (s ∷ ss) = let r = any_has m ss in grind arith
 pub due_most : {T : Type 0} (m : ℕ) (ps : List (Portion T)) → due m ps ≤ m + 1
 due_most m ps = elim (has m ps) as (λ b. cond b (m + 1) m ≤ m + 1) [ true ↦ omega arith | false ↦ omega arith ]
 
--- the totals of a store are far from the largest number
-pub totals_small : {K T : Type 0} {k : Ghosts K T} (s : Store K T k) → s.totals.entered ≤ 120000000000
-totals_small s = omega (arith, (parts s).bounded, (parts s).dated, due_most s.month (kept s.rows))
-
 -- once a store is open, its span is its kind's life and one more
 pub open_span : {K T : Type 0} {k : Ghosts K T} (s : Store K T k) → s.opened ≡ true → span k.LIFE s.opened ≡ k.LIFE + 1
 open_span {k = k} s o = ap (λ b. cond b (k.LIFE + 1) 0) o

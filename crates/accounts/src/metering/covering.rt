@@ -1,5 +1,5 @@
 // A settlement's two passes over the stores.
-ghost use Rattle.std.specs.Prelude.{◌≡◌, ◌-◌, ◌≤◌, true, ◌++◌};
+ghost use Rattle.std.specs.Prelude.{◌≡◌, ◌≤◌, ◌++◌};
 ghost use Rattle.portions.specs.Sums.{sum};
 ghost use Rattle.ledger.specs.Steps.{takings, drawing};
 ghost use Rattle.settlement.specs.Metering.{cover, covers, own_stores, other_stores};
