@@ -1,5 +1,7 @@
 -- Calls are accepted and refused as they should be, in the words of the history.
 use Rattle.std.proofs.Common.{◌≡◌, ℕ, ◌<◌, ◌≤◌, Bool, true, false, eqb, ltb, leb, ◌⊎◌, [], ◌∷◌, Some, None, Option, sym, refl, ap, ◌∙◌, inl, inr, arith}
+use Rattle.std.specs.Option.{option_or}
+use Rattle.std.specs.Result.{result_err}
 use Rattle.std.proofs.lemmas.Bool.{eqb-true, eqb-false, leb-true, leb-false, ltb-true, ltb-false}
 use Rattle.faults.specs.declared.AccountFault.{AccountFault}
 use Rattle.faults.specs.declared.AccountFault.TheVariants.{InStore, OtherMonth, TooFewLines, AlreadyEntered, NothingEntered, PeriodGoesOn, NotSettled, AlreadySettled}
@@ -9,14 +11,14 @@ use Rattle.settlement.specs.declared.standing.Standing.{Standing}
 use Rattle.settlement.specs.declared.states.MonthState.{MonthState}
 use Rattle.settlement.specs.declared.states.MonthState.TheVariants.{Waiting, Entered, Settled}
 use Rattle.settlement.specs.declared.states.Call.TheVariants.{Enter, Settle, Turn}
-use Rattle.settlement.specs.Table.{table, barred}
-use Rattle.settlement.specs.Standing.{asks, or_else, enter_refusal, settle_refusal, turn_refusal}
+use Rattle.settlement.specs.Table.{table}
+use Rattle.settlement.specs.Standing.{asks, enter_refusal, settle_refusal, turn_refusal}
 use Rattle.settlement.specs.Accounts.{Workings}
 use Rattle.settlement.specs.Accounts.Call.{open_for, enter, settle, turn}
 use Rattle.settlement.specs.History.{History, Had, month_state}
 use Rattle.settlement.specs.History.Event.{entered, settled, turned, refused}
 use Rattle.settlement.specs.Refusals.{month_now, ends_now, stands, AllRightly}
-use Rattle.settlement.proofs.Tables.{never, asked, or_else_none, enters_in, settles_in, turns_in}
+use Rattle.settlement.proofs.Tables.{never, asked, option_or_none, enters_in, settles_in, turns_in}
 
 -- where an account stands, by its parts
 pub standing_is : (opened : Bool) (state state' : MonthState) (month month' : ℕ) (o' : Bool) (end : Bool) → opened ≡ o' → state ≡ state' → month ≡ month' →
@@ -28,7 +30,7 @@ failed : (b : Bool) (fault f : AccountFault) (o : Option AccountFault) → asks 
 failed true fault f o h = inr (refl, h)
 failed false fault f o h = inl (cc, refl)
 
-either : (x y : Option AccountFault) (f : AccountFault) → or_else x y ≡ Some f → (x ≡ Some f) ⊎ ((x ≡ None) × (y ≡ Some f))
+either : (x y : Option AccountFault) (f : AccountFault) → option_or x y ≡ Some f → (x ≡ Some f) ⊎ ((x ≡ None) × (y ≡ Some f))
 either (Some fault) y f h = inl h
 either None y f h = inr (refl, h)
 
@@ -47,7 +49,7 @@ past : {P : Type 0} (s : MonthState) → s ≡ Settled → s ≡ Waiting → P
 past s e f = let z : ◌≡◌ {A = ℕ} 0 1 = cc in absurd (omega arith)
 
 -- what the table refuses, by number
-enter_barred : (state : MonthState) (end : Bool) (f : AccountFault) → barred (table state Enter end) ≡ Some f → (account_number f ≡ 25) × (state ≡ Waiting → ⊥)
+enter_barred : (state : MonthState) (end : Bool) (f : AccountFault) → result_err (table state Enter end) ≡ Some f → (account_number f ≡ 25) × (state ≡ Waiting → ⊥)
 enter_barred Waiting end f e = no_fault f e
 enter_barred Entered end f e = (number_of AlreadyEntered f e, λ w. other Entered refl w)
 enter_barred Settled end f e = (number_of AlreadyEntered f e, λ w. past Settled refl w)
@@ -56,13 +58,13 @@ abbrev SettleBarred : MonthState → Bool → AccountFault → Type 0
 SettleBarred state end f =
     ((account_number f ≡ 26) × (state ≡ Waiting)) ⊎ (((account_number f ≡ 27) × (state ≡ Entered) × (end ≡ false)) ⊎ ((account_number f ≡ 29) × (state ≡ Settled)))
 
-settle_barred : (state : MonthState) (end : Bool) (f : AccountFault) → barred (table state Settle end) ≡ Some f → SettleBarred state end f
+settle_barred : (state : MonthState) (end : Bool) (f : AccountFault) → result_err (table state Settle end) ≡ Some f → SettleBarred state end f
 settle_barred Waiting end f e = inl (number_of NothingEntered f e, refl)
 settle_barred Entered true f e = no_fault f e
 settle_barred Entered false f e = inr (inl (number_of PeriodGoesOn f e, refl, refl))
 settle_barred Settled end f e = inr (inr (number_of AlreadySettled f e, refl))
 
-turn_barred : (state : MonthState) (end : Bool) (f : AccountFault) → barred (table state Turn end) ≡ Some f → ((account_number f ≡ 26) × (state ≡ Waiting)) ⊎ ((account_number f ≡ 28) × (state ≡ Entered) × (end ≡ true))
+turn_barred : (state : MonthState) (end : Bool) (f : AccountFault) → result_err (table state Turn end) ≡ Some f → ((account_number f ≡ 26) × (state ≡ Waiting)) ⊎ ((account_number f ≡ 28) × (state ≡ Entered) × (end ≡ true))
 turn_barred Waiting end f e = inl (number_of NothingEntered f e, refl)
 turn_barred Entered true f e = inr (number_of NotSettled f e, refl, refl)
 turn_barred Entered false f e = no_fault f e
@@ -79,7 +81,7 @@ module _ {O A S Z T : Type 0} (works : Workings O A S Z T) (o : O) (h : History 
 
   settled_rightly : (fewest lines : ℕ) → settle_refusal here fewest lines ≡ None → (month_state h ≡ Entered) × (ends_now works o h ≡ true) × (fewest ≤ lines)
   settled_rightly fewest lines e =
-      let a = or_else_none (barred (table (month_state h) Settle (ends_now works o h))) _ e in
+      let a = option_or_none (result_err (table (month_state h) Settle (ends_now works o h))) _ e in
       let b = settles_in (month_state h) (ends_now works o h) a.0 in
       (b.0, b.1, leb-true fewest lines (asked (leb fewest lines) TooFewLines None a.1).0)
 
@@ -100,7 +102,7 @@ module _ {O A S Z T : Type 0} (works : Workings O A S Z T) (o : O) (h : History 
       ((account_number f ≡ 26) × (month_state h ≡ Waiting)) ⊎ (((account_number f ≡ 27) × (month_state h ≡ Entered) × (ends_now works o h ≡ false))
       ⊎ (((account_number f ≡ 29) × (month_state h ≡ Settled)) ⊎ ((account_number f ≡ 30) × (month_state h ≡ Entered) × (ends_now works o h ≡ true) × (lines < fewest))))
   settle_refused fewest lines f e =
-      elim (either (barred (table (month_state h) Settle (ends_now works o h))) _ f e) [
+      elim (either (result_err (table (month_state h) Settle (ends_now works o h))) _ f e) [
         | inl x ↦ elim (settle_barred (month_state h) (ends_now works o h) f x) [ inl y ↦ inl y | inr y ↦ elim y [ inl z ↦ inr (inl z) | inr z ↦ inr (inr (inl z)) ] ]
         | inr x ↦
             let b = settles_in (month_state h) (ends_now works o h) x.0 in

@@ -1,5 +1,7 @@
 -- What an accepted call says of the account that it met.
 use Rattle.std.proofs.Common.{◌≡◌, ℕ, ◌+◌, ◌%◌, ◌<◌, ◌≤◌, Bool, true, false, eqb, ltb, leb, ◌⊎◌, Some, None, Option, refl, inl, inr, arith}
+use Rattle.std.specs.Option.{option_or}
+use Rattle.std.specs.Result.{result_err}
 use Rattle.std.proofs.lemmas.Bool.{eqb-false, leb-true, ltb-true}
 use Rattle.faults.specs.declared.AccountFault.{AccountFault}
 use Rattle.hours.specs.declared.sums.MonthSums.{MonthSums}
@@ -9,9 +11,9 @@ use Rattle.settlement.specs.declared.states.MonthState.TheVariants.{Waiting, Ent
 use Rattle.settlement.specs.declared.states.Call.TheVariants.{Enter, Settle, Turn}
 use Rattle.settlement.specs.declared.states.Period.{Period}
 use Rattle.settlement.specs.declared.states.Period.TheVariants.{Monthly, TwoMonthly, HalfYearly}
-use Rattle.settlement.specs.Table.{ends, table, barred}
+use Rattle.settlement.specs.Table.{ends, table}
 use Rattle.settlement.specs.Bounds.{months_before}
-use Rattle.settlement.specs.Standing.{asks, or_else}
+use Rattle.settlement.specs.Standing.{asks}
 use Rattle.settlement.specs.Accounts.{Workings, refusal}
 use Rattle.settlement.specs.Accounts.Call.{enter, settle, turn}
 
@@ -24,9 +26,9 @@ pub asked : (b : Bool) (fault : AccountFault) (o : Option AccountFault) → asks
 asked true fault o e = (refl, e)
 asked false fault o e = never fault e
 
-pub or_else_none : (x y : Option AccountFault) → or_else x y ≡ None → (x ≡ None) × (y ≡ None)
-or_else_none (Some fault) y e = never fault e
-or_else_none None y e = (refl, e)
+pub option_or_none : (x y : Option AccountFault) → option_or x y ≡ None → (x ≡ None) × (y ≡ None)
+option_or_none (Some fault) y e = never fault e
+option_or_none None y e = (refl, e)
 
 -- an accepted opening is for a month from 47 to 1,199
 pub opens_in : (slots m : ℕ) (f g h : AccountFault) (rest : Option AccountFault) → asks (ltb 12 slots) f (asks (leb 47 m) g (asks (leb m 1199) h rest)) ≡ None → (47 ≤ m) × (m ≤ 1199)
@@ -36,18 +38,18 @@ opens_in slots m f g h rest e =
     (leb-true 47 m b.0, leb-true m 1199 (asked (leb m 1199) _ _ b.1).0)
 
 -- the states in which the table lets a call through
-pub enters_in : (state : MonthState) (end : Bool) → barred (table state Enter end) ≡ None → state ≡ Waiting
+pub enters_in : (state : MonthState) (end : Bool) → result_err (table state Enter end) ≡ None → state ≡ Waiting
 enters_in Waiting end e = refl
 enters_in Entered end e = never _ e
 enters_in Settled end e = never _ e
 
-pub settles_in : (state : MonthState) (end : Bool) → barred (table state Settle end) ≡ None → (state ≡ Entered) × (end ≡ true)
+pub settles_in : (state : MonthState) (end : Bool) → result_err (table state Settle end) ≡ None → (state ≡ Entered) × (end ≡ true)
 settles_in Waiting end e = never _ e
 settles_in Entered true e = (refl, refl)
 settles_in Entered false e = never _ e
 settles_in Settled end e = never _ e
 
-pub turns_in : (state : MonthState) (end : Bool) → barred (table state Turn end) ≡ None → ((state ≡ Entered) × (end ≡ false)) ⊎ (state ≡ Settled)
+pub turns_in : (state : MonthState) (end : Bool) → result_err (table state Turn end) ≡ None → ((state ≡ Entered) × (end ≡ false)) ⊎ (state ≡ Settled)
 turns_in Waiting end e = never _ e
 turns_in Entered true e = never _ e
 turns_in Entered false e = inl (refl, refl)
@@ -58,7 +60,7 @@ module _ {O A S Z T : Type 0} (works : Workings O A S Z T) (a : A) where
   enter_waits sums e = enters_in (works.standing a).state (works.standing a).ends (asked (eqb sums.month (works.standing a).month) _ _ (asked (works.standing a).opened _ _ e).1).1
 
   pub settle_entered : (rule : Rule) (lines : ℕ) → refusal works (settle rule lines) a ≡ None → (works.standing a).state ≡ Entered
-  settle_entered rule lines e = (settles_in (works.standing a).state (works.standing a).ends (or_else_none _ _ (asked (works.standing a).opened _ _ e).1).0).0
+  settle_entered rule lines e = (settles_in (works.standing a).state (works.standing a).ends (option_or_none _ _ (asked (works.standing a).opened _ _ e).1).0).0
 
   pub turn_early : refusal works turn a ≡ None → (works.standing a).month < 1199
   turn_early e = ltb-true (works.standing a).month 1199 (asked (ltb (works.standing a).month 1199) _ _ (asked (works.standing a).opened _ _ e).1).0

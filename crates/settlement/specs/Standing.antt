@@ -1,25 +1,22 @@
 -- By which fault a call on an account is refused, from where it stands.
 use Rattle.std.specs.Prelude.{ℕ, Bool, cond, Some, None, Option, ◌==◌, nat_le, nat_lt}
+use Rattle.std.specs.Option.{option_or}
+use Rattle.std.specs.Result.{result_err}
 use Rattle.faults.specs.declared.AccountFault.{AccountFault}
 use Rattle.faults.specs.declared.AccountFault.TheVariants.{InStore, NotOpen, OtherMonth, TooFewLines}
 use Rattle.faults.specs.declared.StoreFault.TheVariants.{LastMonth}
 use Rattle.settlement.specs.declared.standing.Standing.{Standing}
 use Rattle.settlement.specs.declared.states.Call.{Call}
 use Rattle.settlement.specs.declared.states.Call.TheVariants.{Enter, Settle, Turn}
-use Rattle.settlement.specs.Table.{table, barred}
+use Rattle.settlement.specs.Table.{table}
 
 -- a call asks for this, and is otherwise refused by the fault
 abbrev pub asks : Bool → AccountFault → Option AccountFault → Option AccountFault
 asks holds fault rest = cond holds rest (Some fault)
 
--- a refusal, and if there is none, the next
-abbrev pub or_else : Option AccountFault → Option AccountFault → Option AccountFault
-or_else (Some fault) next = Some fault
-or_else None next = next
-
--- the refusal that the state table has for a call
+-- the refusal that the state table has for a call, if it has one
 abbrev pub by_table : Standing → Call → Option AccountFault
-by_table s call = barred (table s.state call s.ends)
+by_table s call = result_err (table s.state call s.ends)
 
 -- an enter asks for an open account, sums of its month, and what the table asks
 abbrev pub enter_refusal : Standing → ℕ → Option AccountFault
@@ -27,7 +24,7 @@ enter_refusal s month = asks s.opened NotOpen (asks (month == s.month) OtherMont
 
 -- a settlement asks for an open account, what the table asks, and room for its lines
 abbrev pub settle_refusal : Standing → ℕ → ℕ → Option AccountFault
-settle_refusal s fewest lines = asks s.opened NotOpen (or_else (by_table s Settle) (asks (nat_le fewest lines) TooFewLines None))
+settle_refusal s fewest lines = asks s.opened NotOpen (option_or (by_table s Settle) (asks (nat_le fewest lines) TooFewLines None))
 
 -- a turn asks for an open account, a month before 1,199, and what the table asks
 abbrev pub turn_refusal : Standing → Option AccountFault

@@ -36,8 +36,3 @@ table Entered Turn false = Ok Waiting
 table Settled Enter end = Err AlreadyEntered
 table Settled Settle end = Err AlreadySettled
 table Settled Turn end = Ok Waiting
-
--- the refusal that the table has, if it has one
-abbrev pub barred : Result MonthState AccountFault → Option AccountFault
-barred (Ok state) = None
-barred (Err fault) = Some fault
