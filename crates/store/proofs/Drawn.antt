@@ -1,6 +1,6 @@
 -- Draws from rows: each portion less its taking.
 use Rattle.std.proofs.Common.{◌≡◌, ℕ, suc, ◌+◌, ◌<◌, ◌≤◌, zero, true, false, cond, eqb, leb, List, [], ◌∷◌, map, length, get_or, take, set, None, Ok, sym, refl, ap, ◌∙◌, subst, arith}
-use Rattle.std.proofs.lemmas.List.{get_or-map, length-map, length-take-le, map-set}
+use Rattle.std.proofs.lemmas.List.{get_or-map, length-map, map-set}
 use Rattle.portions.specs.Sums.{sum}
 use Rattle.portions.specs.declared.Slot.{Slot}
 use Rattle.portions.specs.declared.Kind.{Ghosts}
@@ -15,7 +15,7 @@ use Rattle.ledger.proofs.Asked.{draw_met}
 use Rattle.store.specs.declared.Store.{Store}
 use Rattle.store.specs.declared.rows.Rows.{Rows}
 use Rattle.store.specs.declared.totals.Totals.{Totals}
-use Rattle.store.specs.Held.{held, lent, room, in_use}
+use Rattle.store.specs.Held.{held, room}
 use Rattle.store.specs.Counting.{more_used}
 use Rattle.store.specs.Reading.{kind_of, ledger_of}
 use Rattle.store.specs.Sound.{Sound, rises, kept}

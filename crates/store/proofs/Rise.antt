@@ -7,8 +7,7 @@ use Rattle.std.specs.List.{list_any}
 use Rattle.ledger.specs.Ledger.{has}
 use Rattle.portions.specs.declared.Kind.{Ghosts}
 use Rattle.store.specs.declared.Store.{Store}
-use Rattle.store.specs.Sound.{rises, due, kept, span}
-use Rattle.store.proofs.Parts.{parts}
+use Rattle.store.specs.Sound.{rises, due, span}
 
 -- Rising months below `end` are at most as many as there are months from `low` on.
 pub rises_length : {T : Type 0} (low end : ℕ) (ps : List (Portion T)) → rises low end ps ≡ true → low + length ps ≤ end
