@@ -13,8 +13,8 @@ pub data Call (T : Type 0) : Type 0 where
   draw : (rule : Rule) (wanted : ℕ) → Call T
   turn : Call T
 
--- a call asks for this, and is otherwise refused by the fault
-abbrev pub asks : Bool → StoreFault → Option StoreFault → Option StoreFault
+-- a call, on a store or an account, asks for this, and is otherwise refused by the fault
+abbrev pub asks : {F : Type 0} → Bool → F → Option F → Option F
 asks holds fault rest = cond holds rest (Some fault)
 
 module _ {T : Type 0} where
@@ -42,11 +42,11 @@ module _ {T : Type 0} where
   refusal kind turn s = turn_refusal s
 
 -- the answer to a call that is refused by this fault, if by any, and otherwise answered with v
-abbrev pub answers : {V : Type 0} → Option StoreFault → V → Result V StoreFault
+abbrev pub answers : {F V : Type 0} → Option F → V → Result V F
 answers None v = Ok v
 answers (Some fault) v = Err fault
 
--- a refused call leaves the ledger as it is, and an accepted one makes another of it
-abbrev pub becomes : {T : Type 0} → Option StoreFault → Ledger T → Ledger T → Ledger T
+-- a refused call leaves things as they are, and an accepted one makes others of them
+abbrev pub becomes : {F X : Type 0} → Option F → X → X → X
 becomes None new old = new
 becomes (Some fault) new old = old

@@ -4,11 +4,11 @@ use Rattle.faults.specs.declared.AccountFault.{AccountFault}
 use Rattle.hours.specs.declared.sums.MonthSums.{MonthSums}
 use Rattle.ledger.specs.Kinds.{LawfulKind}
 use Rattle.ledger.specs.Rules.{Rule, LawfulRule}
+use Rattle.ledger.specs.Calls.{answers, becomes}
 use Rattle.ledger.proofs.Promise.{promised}
 use Rattle.settlement.specs.declared.answers.Returned.{Returned}
 use Rattle.settlement.specs.Accounts.{Workings, refusal}
 use Rattle.settlement.specs.Accounts.Call.{open_for, enter, settle, turn}
-use Rattle.settlement.specs.Answers.{answers, becomes}
 use Rattle.settlement.specs.Steps.{hands_back, open_answer, open_after, enter_answer, enter_after, settle_answer, settle_after, turn_answer, turn_after}
 use Rattle.settlement.specs.History.{Event, History, Had, Does, in_all, SettledOldestFirst, enter_event, settle_event, turn_event}
 use Rattle.settlement.specs.History.Event.{entered, settled, turned, refused}

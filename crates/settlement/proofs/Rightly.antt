@@ -7,12 +7,13 @@ use Rattle.faults.specs.declared.AccountFault.{AccountFault}
 use Rattle.faults.specs.declared.AccountFault.TheVariants.{InStore, OtherMonth, TooFewLines, AlreadyEntered, NothingEntered, PeriodGoesOn, NotSettled, AlreadySettled}
 use Rattle.faults.specs.declared.StoreFault.TheVariants.{LastMonth}
 use Rattle.faults.specs.Numbers.{account_number}
+use Rattle.ledger.specs.Calls.{asks}
 use Rattle.settlement.specs.declared.standing.Standing.{Standing}
 use Rattle.settlement.specs.declared.states.MonthState.{MonthState}
 use Rattle.settlement.specs.declared.states.MonthState.TheVariants.{Waiting, Entered, Settled}
 use Rattle.settlement.specs.declared.states.Call.TheVariants.{Enter, Settle, Turn}
 use Rattle.settlement.specs.Table.{table}
-use Rattle.settlement.specs.Standing.{asks, enter_refusal, settle_refusal, turn_refusal}
+use Rattle.settlement.specs.Standing.{enter_refusal, settle_refusal, turn_refusal}
 use Rattle.settlement.specs.Accounts.{Workings}
 use Rattle.settlement.specs.Accounts.Call.{open_for, enter, settle, turn}
 use Rattle.settlement.specs.History.{History, Had, month_state}

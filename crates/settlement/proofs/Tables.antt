@@ -6,6 +6,7 @@ use Rattle.std.proofs.lemmas.Bool.{eqb-false, leb-true, ltb-true}
 use Rattle.faults.specs.declared.AccountFault.{AccountFault}
 use Rattle.hours.specs.declared.sums.MonthSums.{MonthSums}
 use Rattle.ledger.specs.Rules.{Rule}
+use Rattle.ledger.specs.Calls.{asks}
 use Rattle.settlement.specs.declared.states.MonthState.{MonthState}
 use Rattle.settlement.specs.declared.states.MonthState.TheVariants.{Waiting, Entered, Settled}
 use Rattle.settlement.specs.declared.states.Call.TheVariants.{Enter, Settle, Turn}
@@ -13,7 +14,6 @@ use Rattle.settlement.specs.declared.states.Period.{Period}
 use Rattle.settlement.specs.declared.states.Period.TheVariants.{Monthly, TwoMonthly, HalfYearly}
 use Rattle.settlement.specs.Table.{ends, table}
 use Rattle.settlement.specs.Bounds.{months_before}
-use Rattle.settlement.specs.Standing.{asks}
 use Rattle.settlement.specs.Accounts.{Workings, refusal}
 use Rattle.settlement.specs.Accounts.Call.{enter, settle, turn}
 

@@ -8,6 +8,7 @@ use Rattle.portions.specs.Sums.{sum}
 use Rattle.ledger.specs.Rules.{Rule}
 use Rattle.ledger.specs.Ledger as ledger
 use Rattle.ledger.specs.Ledger.{Ledger, lefts}
+use Rattle.ledger.specs.Calls.{asks}
 use Rattle.ledger.specs.Steps.{takings, drawing, entering, turning, refunds, losses}
 use Rattle.settlement.specs.declared.answers.Line.{Line}
 use Rattle.settlement.specs.declared.answers.Payment.{Payment}
@@ -15,7 +16,6 @@ use Rattle.settlement.specs.declared.states.MonthState.{MonthState}
 use Rattle.settlement.specs.declared.states.MonthState.TheVariants.{Waiting, Entered, Settled}
 use Rattle.settlement.specs.Kinds.{deposit}
 use Rattle.settlement.specs.Lines.{lines_of}
-use Rattle.settlement.specs.Standing.{asks}
 use Rattle.settlement.specs.Accounts.{Workings}
 
 -- what a billing account means: the percentage that caps refunds, the bill to be settled, and the deposits

@@ -8,6 +8,7 @@ use Rattle.portions.specs.Sums.{sum}
 use Rattle.ledger.specs.Rules.{Rule}
 use Rattle.ledger.specs.Ledger as ledger
 use Rattle.ledger.specs.Ledger.{Ledger, lefts}
+use Rattle.ledger.specs.Calls.{asks}
 use Rattle.ledger.specs.Steps.{takings, drawing, entering, turning, refunds, losses}
 use Rattle.settlement.specs.declared.answers.Line.{Line}
 use Rattle.settlement.specs.declared.answers.Settlement.{Settlement}
@@ -22,7 +23,6 @@ use Rattle.settlement.specs.Zones.{of, put, all, each, each_two}
 use Rattle.settlement.specs.Kinds.{energy}
 use Rattle.settlement.specs.Table.{ends, period_of}
 use Rattle.settlement.specs.Lines.{lines_of}
-use Rattle.settlement.specs.Standing.{asks}
 use Rattle.settlement.specs.Accounts.{Workings}
 
 -- what a metering account means: the coefficient in tenths, its period, the import pending and the store of each zone

@@ -1,18 +1,15 @@
 -- By which fault a call on an account is refused, from where it stands.
-use Rattle.std.specs.Prelude.{ℕ, Bool, cond, Some, None, Option, ◌==◌, nat_le, nat_lt}
+use Rattle.std.specs.Prelude.{ℕ, None, Option, ◌==◌, nat_le, nat_lt}
 use Rattle.std.specs.Option.{option_or}
 use Rattle.std.specs.Result.{result_err}
 use Rattle.faults.specs.declared.AccountFault.{AccountFault}
 use Rattle.faults.specs.declared.AccountFault.TheVariants.{InStore, NotOpen, OtherMonth, TooFewLines}
 use Rattle.faults.specs.declared.StoreFault.TheVariants.{LastMonth}
+pub use Rattle.ledger.specs.Calls.{asks}
 use Rattle.settlement.specs.declared.standing.Standing.{Standing}
 use Rattle.settlement.specs.declared.states.Call.{Call}
 use Rattle.settlement.specs.declared.states.Call.TheVariants.{Enter, Settle, Turn}
 use Rattle.settlement.specs.Table.{table}
-
--- a call asks for this, and is otherwise refused by the fault
-abbrev pub asks : Bool → AccountFault → Option AccountFault → Option AccountFault
-asks holds fault rest = cond holds rest (Some fault)
 
 -- the refusal that the state table has for a call, if it has one
 abbrev pub by_table : Standing → Call → Option AccountFault

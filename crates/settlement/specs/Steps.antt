@@ -3,9 +3,9 @@ use Rattle.std.specs.Prelude.{ℕ, List, length, Some, None, Ok, Err, Option, Re
 use Rattle.faults.specs.declared.AccountFault.{AccountFault}
 use Rattle.hours.specs.declared.sums.MonthSums.{MonthSums}
 use Rattle.ledger.specs.Rules.{Rule}
+use Rattle.ledger.specs.Calls.{answers, becomes}
 use Rattle.settlement.specs.declared.answers.Line.{Line}
 use Rattle.settlement.specs.declared.answers.Returned.{Returned}
-use Rattle.settlement.specs.Answers.{answers, becomes}
 use Rattle.settlement.specs.Lines.{written}
 use Rattle.settlement.specs.Accounts.{Workings, refusal}
 use Rattle.settlement.specs.Accounts.Call.{open_for, enter, settle, turn}
