@@ -1,5 +1,5 @@
 -- How a ledger is read off a store.
-use Rattle.std.specs.Prelude.{map, Some, None, Option}
+use Rattle.std.specs.Prelude.{map, Option, option_map}
 use Rattle.portions.specs.Slots.{reads}
 use Rattle.portions.specs.declared.Kind.{Ghosts}
 use Rattle.store.specs.declared.Store.{Store}
@@ -30,5 +30,4 @@ ledger_totals l = record { entered = l.entered; used = l.used; refunded = l.refu
 
 -- a portion that may be there, by what it means
 abbrev pub told : {S V : Type 0} → (S → V) → Option S → Option V
-told f (Some v) = Some (f v)
-told f None = None
+told f portion = option_map f portion
