@@ -61,11 +61,11 @@ impl OpenBook {
         Ok(())
     }
 
-    // Reads the next hour.
+    // Reads the next hour. Its prices are asked at each: asking leaves them as they are.
     pub(crate) fn read(&mut self, reading: Reading) -> Result<(), BookFault>
         ensures { (s : BookState) → Holds self.old s → HoldsAfter (hour_refusal reading.import reading.export s) s (with_next_hour reading.import reading.export s) result self.new }
     {
-        self.book.read(reading, &mut self.prices)
+        self.book.read_asking(reading, &mut self.prices)
     }
 
     // Reads the readings that the bytes begin with, up to another record or a reading that is refused: what follows them.

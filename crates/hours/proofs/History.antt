@@ -1,12 +1,12 @@
 -- What a book has read, hour after hour.
-use Rattle.std.proofs.Common.{◌≡◌, ℕ, zero, suc, ◌+◌, ◌-◌, ◌<◌, ◌≤◌, cond, eqb, ◌≢◌, List, [], ◌∷◌, ◌++◌, length, get_or, ℤ, Some, None, Option, sym, refl, ap, ◌∙◌, subst, inl, inr, add-zero, add_assoc, add-suc, suc-add, zero-add, arith, lit≤, length-append, get_or-set_other, get_or-set_same}
-use Rattle.std.proofs.lemmas.Bool.Decides.{eqb_tells}
+use Rattle.std.proofs.Common.{◌≡◌, ℕ, zero, suc, ◌+◌, ◌-◌, ◌<◌, ◌≤◌, cond, eqb, ◌≢◌, List, [], ◌∷◌, ◌++◌, length, get_or, ℤ, Some, None, Option, Result, false, sym, refl, ap, ◌∙◌, subst, inl, inr, add-zero, add_assoc, add-suc, suc-add, zero-add, arith, lit≤, length-append, get_or-set_other, get_or-set_same}
+use Rattle.std.proofs.lemmas.Bool.Decides.{eqb_tells, nat_tests}
 use Rattle.faults.specs.declared.BookFault.{BookFault}
 use Rattle.hours.specs.Zones.{zone_number}
 use Rattle.hours.specs.declared.zones.Zone.{Zone}
 use Rattle.hours.specs.declared.zones.Zone.TheVariants.{First, Second, Third}
 use Rattle.hours.specs.Bounds.{Bounded}
-use Rattle.hours.specs.Reading.{hours_of, zone_at, more, joined, read_refusal, unless, reading, answer, after, nothing}
+use Rattle.hours.specs.Reading.{hours_of, zone_at, more, joined, read_refusal, unless, reading, needs_price, answer, after, nothing}
 use Rattle.hours.specs.Month.{HourRead, sum_over, taken_in, given_in, costs, earns, HasRead, ReadsOn}
 use Rattle.hours.specs.declared.book.Terms.{Terms}
 use Rattle.hours.specs.declared.book.Tally.{Tally}
@@ -76,9 +76,16 @@ by_refusal t y i e g (Some f) li le hs r = r
 by_refusal t y i e g None li le hs r = sums_more t y i e g hs li le r
 
 -- whatever was read before, after a reading that and the hour is read, or, where it is refused, that alone
-pub reads_on : (t : Terms) (y : Tally) (i e : ℕ) (g : Option ℤ) → Bounded y.hours y.totals
-    → ReadsOn t y (record { import = i; export = e; price = g }) (answer (reading t y i e g)) (after y (reading t y i e g))
-reads_on t y i e g b = by_refusal t y i e g (read_refusal (hours_of t) y.hours i e g) b.0 b.1
+pub reads_on : (t : Terms) (y : Tally) (i e : ℕ) (g : Option ℤ) (r : Result (Unit {0}) BookFault) (y' : Tally) → r ≡ answer (reading t y i e g) → y' ≡ after y (reading t y i e g)
+    → Bounded y.hours y.totals → ReadsOn t y (record { import = i; export = e; price = g }) r y'
+reads_on t y i e g r y' answered left b =
+    let h : HourRead = record { import = i; export = e; price = g } in
+    subst (λ (x : Result (Unit {0}) BookFault). ReadsOn t y h x y') (sym answered)
+    (subst (λ (z : Tally). ReadsOn t y h (answer (reading t y i e g)) z) (sym left) (by_refusal t y i e g (read_refusal (hours_of t) y.hours i e g) b.0 b.1))
+
+-- where no price is needed, none does as well as any
+pub unneeded : (t : Terms) (y : Tally) (i e : ℕ) (g : Option ℤ) → needs_price (hours_of t) y.hours i e ≡ false → reading t y i e None ≡ reading t y i e g
+unneeded t y i e g h = grind (arith, nat_tests)
 
 zero_at : (k : ℕ) → ◌≡◌ {A = ℕ} (get_or (0 ∷ 0 ∷ 0 ∷ []) k 0) 0
 zero_at zero = refl

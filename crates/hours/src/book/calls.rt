@@ -1,13 +1,13 @@
 // Opening a book, reading hours into it and finishing it.
 ghost use Rattle.std.specs.Prelude.{◌≡◌, ◌+◌, ◌-◌, ◌*◌, ◌<◌, ◌≤◌, true, List, [], IfOk, if◌then◌else◌, Some, Ok, Err, slice_index_or};
 ghost use Rattle.calendar.specs.Hour.{hour_of};
-ghost use Rattle.hours.specs.Price.{positive};
+ghost use Rattle.hours.specs.Price.{Ranged, worth};
 ghost use Rattle.hours.specs.Zones.{zone_number};
 ghost use Rattle.hours.specs.declared.zones.Zone.TheVariants.{First};
 ghost use Rattle.hours.specs.Bounds.{Bounded, Cheap};
 ghost use Rattle.hours.specs.Month.{Finished, HasRead, HourRead, MonthRead, ReadsOn};
 ghost use Rattle.hours.specs.Opening.{Opened, each_cheap, book_open_refusal};
-ghost use Rattle.hours.specs.Reading.{after, answer, grown, hours_of, joined_at, nothing};
+ghost use Rattle.hours.specs.Reading.{after, answer, grown, hours_of, joined_at, needs_price, nothing, reading as read_with, too_large};
 ghost use Rattle.hours.specs.Source.{next_hour, next_reading, next_state};
 
 use crate::book::{Book, Reading, Tally, Tariff, Terms, Unfinished};
@@ -26,26 +26,30 @@ struct Balance {
 }
 
 impl Reading {
-    // The difference import − export, a signed number, split by its sign.
+    // Its import or its export is over 100,000 Wh.
+    fn is_too_large(self) -> bool
+        ensures { result ≡ too_large self.import self.export }
+    {
+        self.import.max(self.export) > 100_000
+    }
+
+    // The difference import − export, a signed number, split by its sign: one of the two is 0.
     fn balance(self) -> Balance
-        requires import { self.import ≤ 100000 }
-        requires export { self.export ≤ 100000 }
         ensures taken { result.taken ≡ self.import - self.export }
         ensures given { result.given ≡ self.export - self.import }
     {
-        let difference = self.import as i32 - self.export as i32;
         Balance {
-            taken: u32::try_from(difference).unwrap_or(0),
-            given: u32::try_from(-difference).unwrap_or(0),
+            taken: self.import.saturating_sub(self.export),
+            given: self.export.saturating_sub(self.import),
         }
     }
 }
 
-// What is paid for a price: a negative one counts as 0.
-fn rate_of(price: i32) -> u32
-    ensures { result ≡ positive price }
+// What is paid for each Wh: a negative price counts as 0, and so does none.
+fn rate_of(price: Option<i32>) -> u32
+    ensures { result ≡ worth price }
 {
-    u32::try_from(price).unwrap_or(0)
+    price.map_or(0, |price| u32::try_from(price).unwrap_or(0))
 }
 
 // Energy at a price. Its bounds stand again on the two steps that hand the numbers on: a type for each would be taken apart at
@@ -161,37 +165,38 @@ impl Book {
         self.tally.add_hour(zone, reading.balance(), sale, rate);
     }
 
-    // Reads the next hour. The source is asked only where the hour can be read and its export is larger.
-    fn read_next<S: PriceSource>(
-        &mut self,
-        reading: Reading,
-        source: &mut S,
-    ) -> Result<(), BookFault>
-        ensures answer { result ≡ answer (next_reading S.PriceSource source.old self.old.terms self.old.tally reading.import reading.export) }
+    // Reads the next hour at the price that there is for it. Which of import and export is larger decides no branch but where there
+    // is no price: from hour to hour it is as good as random.
+    fn read_priced(&mut self, reading: Reading, price: Option<i32>) -> Result<(), BookFault>
+        requires { Ranged price }
+        ensures answer { result ≡ answer (read_with self.old.terms self.old.tally reading.import reading.export price) }
         ensures terms { self.new.terms ≡ self.old.terms }
-        ensures tally { self.new.tally ≡ after self.old.tally (next_reading S.PriceSource source.old self.old.terms self.old.tally reading.import reading.export) }
+        ensures tally { self.new.tally ≡ after self.old.tally (read_with self.old.terms self.old.tally reading.import reading.export price) }
         ensures bounded { Bounded self.old.tally.hours self.old.tally.totals }
-        ensures asked { S.PriceSource.state source.new ≡ next_state S.PriceSource source.old self.old.terms self.old.tally reading.import reading.export }
     {
-        if reading.import > 100_000 || reading.export > 100_000 {
+        if reading.is_too_large() {
             return Err(BookFault::ReadingTooLarge);
         }
-        let hours = self.tally.hours;
-        let Some(hour) = self.terms.month.hour_at(hours) else {
+        let Some(hour) = self.terms.month.hour_at(self.tally.hours) else {
             return Err(BookFault::BookComplete);
         };
-        if reading.export <= reading.import {
-            self.join(hour, reading, 0);
-            return Ok(());
-        }
-        let Some(price) = source.ask(self.terms.month.number(), hours) else {
+        if price.is_none() && reading.import < reading.export {
             return Err(BookFault::NoPrice);
-        };
+        }
         self.join(hour, reading, rate_of(price));
         Ok(())
     }
 
-    // Reads the next hour.
+    // The reading can be read next, and its export is larger.
+    fn needs_price(&self, reading: Reading) -> bool
+        ensures { result ≡ needs_price (hours_of self.now.terms) self.now.tally.hours reading.import reading.export }
+    {
+        !reading.is_too_large()
+            && self.tally.hours < self.terms.month.hours()
+            && reading.import < reading.export
+    }
+
+    // Reads the next hour. The source is asked only where the hour can be read and its export is larger.
     pub fn read<S: PriceSource>(
         &mut self,
         reading: Reading,
@@ -203,7 +208,29 @@ impl Book {
         ensures asked { S.PriceSource.state source.new ≡ next_state S.PriceSource source.old self.old.terms self.old.tally reading.import reading.export }
         ensures history { ReadsOn self.old.terms self.old.tally (next_hour S.PriceSource source.old self.old.terms self.old.tally reading.import reading.export) result self.new.tally }
     {
-        self.read_next(reading, source)
+        let price = if self.needs_price(reading) {
+            source.ask(self.terms.month.number(), self.tally.hours)
+        } else {
+            None
+        };
+        self.read_priced(reading, price)
+    }
+
+    // Reads the next hour, and asks the source for its price whether it is needed or not: of use where asking costs less than to
+    // find out, and leaves the source as it was.
+    pub fn read_asking<S: PriceSource>(
+        &mut self,
+        reading: Reading,
+        source: &mut S,
+    ) -> Result<(), BookFault>
+        ensures answer { result ≡ answer (next_reading S.PriceSource source.old self.old.terms self.old.tally reading.import reading.export) }
+        ensures terms { self.new.terms ≡ self.old.terms }
+        ensures tally { self.new.tally ≡ after self.old.tally (next_reading S.PriceSource source.old self.old.terms self.old.tally reading.import reading.export) }
+        ensures asked { S.PriceSource.state source.new ≡ S.PriceSource.asked (S.PriceSource.state source.old) self.old.terms.month.number self.old.tally.hours }
+        ensures history { ReadsOn self.old.terms self.old.tally (next_hour S.PriceSource source.old self.old.terms self.old.tally reading.import reading.export) result self.new.tally }
+    {
+        let price = source.ask(self.terms.month.number(), self.tally.hours);
+        self.read_priced(reading, price)
     }
 
     // The sums of a complete book; a book with hours missing is handed back.
