@@ -1,12 +1,12 @@
 // A month, with what is needed to find its hours.
-ghost use Rattle.std.specs.Prelude.{◌≡◌, ◌+◌, ◌*◌, ◌%◌, ◌<◌, ◌≤◌, T};
+ghost use Rattle.std.specs.Prelude.{◌≡◌, ◌+◌, ◌*◌, ◌%◌, ◌<◌, ◌≤◌, ◌==◌, T, if◌then◌else◌};
 ghost use Rattle.calendar.specs.Calendar.{is_last_sunday, days_of_month, weekday};
 ghost use Rattle.calendar.specs.Hour.{hours_at_change, month_hours};
 
 pub(crate) mod days;
 
-// One of the 1,200 months, by its number. Its hours, the weekday of its first day, its last Sunday and
-// that day's hours are found once, when it is made.
+// One of the 1,200 months, by its number. Its hours, the weekday of its first day, its last Sunday, that day's hours and the
+// first place there that a change of the clocks moves are found once, when it is made.
 #[derive(Clone, Copy)]
 pub struct Month {
     number: u16,
@@ -14,6 +14,7 @@ pub struct Month {
     first: u8,
     sunday: u8,
     change: u8,
+    turn: u16,
     ghost dated: { number < 1200 },
     ghost long: { hours ≡ month_hours number },
     ghost season: { hours + 24 ≡ 24 * days_of_month number + hours_at_change (number % 12) },
@@ -22,4 +23,5 @@ pub struct Month {
     ghost last: { T (is_last_sunday number sunday) },
     ghost inside: { sunday < days_of_month number },
     ghost changes: { change ≡ hours_at_change (number % 12) },
+    ghost turns: { turn ≡ 24 * sunday + (if change == 25 then 3 else 2) },
 }

@@ -3,3 +3,4 @@ pub mod Openings
 pub mod Months
 pub mod Closing
 pub mod Summed
+pub mod Rows

@@ -1,6 +1,7 @@
 -- Zone marks: the zone of each clock hour, 24 of a working day and 24 of a Saturday or Sunday.
-use Rattle.std.specs.Prelude.{◌≡◌, ℕ, Bool, false, cond, List, [], Result, MatchResult, map, slice_index, slice_index_or}
+use Rattle.std.specs.Prelude.{◌≡◌, ℕ, ◌<◌, Bool, false, cond, List, [], length, Result, MatchResult, map, nat_le, slice_index, slice_index_or}
 use Rattle.std.specs.List.{list_all}
+use Rattle.calendar.specs.Calendar.{weekday}
 use Rattle.calendar.specs.Hour.{hour_of_place}
 use Rattle.faults.specs.declared.BookFault.{BookFault}
 use Rattle.faults.specs.declared.BookFault.TheVariants.{MarkOutOfRange}
@@ -22,3 +23,11 @@ marks_of zones = map zone_number zones
 -- the result is the zones that a row of marks names, or refusal 11 of a row with a mark that names none
 abbrev pub RowNamed : List ℕ → Result (List Zone) BookFault → Type 0
 RowNamed row r = MatchResult r (λ zones. marks_of zones ≡ row) (λ fault. (fault ≡ MarkOutOfRange) × (each_zone row ≡ false))
+
+-- the row of day d of month m: the weekend's on a Saturday or Sunday, else the working days'
+abbrev pub row_of : ℕ → List Zone → List Zone → ℕ → List Zone
+row_of m working weekend d = cond (nat_le 5 (weekday m d)) weekend working
+
+-- each day has its row, of 24 zones
+abbrev pub RowsOf : ℕ → List Zone → List Zone → List (List Zone) → Type 0
+RowsOf m working weekend rows = (d : ℕ) → d < 31 → (length (slice_index_or rows d []) ≡ 24) × (slice_index_or rows d [] ≡ row_of m working weekend d)

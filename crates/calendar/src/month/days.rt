@@ -1,8 +1,8 @@
 // The months by their dates, and the hours of a month in their order.
-ghost use Rattle.std.specs.Prelude.{◌≡◌, ℕ, ◌+◌, ◌-◌, ◌*◌, ◌/◌, ◌%◌, ◌<◌, ◌≤◌, Some, None, ◌≢◌, nat_le};
+ghost use Rattle.std.specs.Prelude.{◌≡◌, ℕ, ◌+◌, ◌-◌, ◌*◌, ◌/◌, ◌%◌, ◌<◌, ◌≤◌, Some, None, IfSome, ◌≢◌, nat_le};
 ghost use Rattle.calendar.specs.Calendar.{days_of_month, calendar_month_of, weekday, year_of};
-ghost use Rattle.calendar.specs.Even.{place_if_even};
-ghost use Rattle.calendar.specs.Hour.{OneHour, hours_at_change, hour_of_place, hour_of, month_hours};
+ghost use Rattle.calendar.specs.Even.{even_of, place_if_even};
+ghost use Rattle.calendar.specs.Hour.{OneHour, hours_at_change, hour_of, month_hours};
 
 use crate::month::Month;
 use crate::table::MonthNumber;
@@ -23,12 +23,15 @@ impl Month {
     {
         let change = number.change_hours();
         let hours = 24 * u16::from(number.days()) + u16::from(change) - 24;
+        let sunday = number.last_sunday();
+        let second = if change == 25 { 3 } else { 2 };
         Month {
             number: number.value,
             hours,
             first: number.first_weekday(),
-            sunday: number.last_sunday(),
+            sunday,
             change,
+            turn: 24 * u16::from(sunday) + second,
         }
     }
 
@@ -66,44 +69,35 @@ impl Month {
         self.hours
     }
 
-    // Day `day` is a Saturday or a Sunday.
-    fn is_weekend(&self, day: u16) -> bool
-        requires { day ≤ 31 }
+    // Day `day`, counted from 0, is a Saturday or a Sunday.
+    pub fn is_weekend(&self, day: u8) -> bool
         ensures { result ≡ nat_le 5 (weekday self.now.number day) }
     {
-        (u16::from(self.first) + day) % 7 >= 5
+        (u16::from(self.first) + u16::from(day)) % 7 >= 5
     }
 
     // A place as if every day had 24 hours.
-    fn even_place(&self, place: u16) -> u16
+    fn even_inside(&self, place: u16) -> u16
         requires { place ≤ 745 }
         ensures value { result ≡ place_if_even self.now.sunday self.now.change place }
         ensures bound { result ≤ 746 }
     {
-        let turn = 24 * u16::from(self.sunday) + 2;
-        if self.change == 23 && turn <= place {
-            place + 1
-        } else if self.change == 25 && turn < place {
-            place - 1
-        } else {
+        if place < self.turn {
             place
+        } else {
+            place + 24 - u16::from(self.change)
         }
     }
 
-    // The hour at a place inside the month.
-    fn hour_inside(&self, place: u16) -> Hour
-        requires { place < month_hours self.now.number }
-        ensures value { result ≡ hour_of_place self.now.number place }
-        ensures one { OneHour self.now.number place result }
-        ensures clock { result.clock < 24 }
+    // The place at which the hour at `place` would stand if every day had 24 hours; none past the month's end.
+    pub fn even_place(&self, place: u16) -> Option<u16>
+        ensures value { result ≡ even_of self.now.number place }
+        ensures bound { IfSome result (λ e. e < 744) }
     {
-        let even = self.even_place(place);
-        let day = even / 24;
-        Hour {
-            day: day as u8,
-            clock: (even % 24) as u8,
-            weekend: self.is_weekend(day),
+        if place >= self.hours {
+            return None;
         }
+        Some(self.even_inside(place))
     }
 
     // The hour at a place of the month, places counted from 0; none past its end.
@@ -112,9 +106,12 @@ impl Month {
         ensures one { elim result [ Some h ↦ OneHour self.now.number place h | None ↦ month_hours self.now.number ≤ place ] }
         ensures clock { elim result [ Some h ↦ h.clock < 24 | None ↦ Unit {0} ] }
     {
-        if place >= self.hours {
-            return None;
-        }
-        Some(self.hour_inside(place))
+        let even = self.even_place(place)?;
+        let day = (even / 24) as u8;
+        Some(Hour {
+            day,
+            clock: (even % 24) as u8,
+            weekend: self.is_weekend(day),
+        })
     }
 }

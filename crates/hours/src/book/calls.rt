@@ -1,13 +1,12 @@
 // Opening a book, reading hours into it and finishing it.
-ghost use Rattle.std.specs.Prelude.{◌≡◌, ◌+◌, ◌-◌, ◌*◌, ◌<◌, ◌≤◌, true, List, [], IfOk, if◌then◌else◌, Some, Ok, Err, slice_index_or};
-ghost use Rattle.calendar.specs.Hour.{hour_of};
+ghost use Rattle.std.specs.Prelude.{◌≡◌, ◌+◌, ◌-◌, ◌*◌, ◌<◌, ◌≤◌, true, List, [], IfOk, Some, None, Ok, Err};
 ghost use Rattle.hours.specs.Price.{Ranged, worth};
 ghost use Rattle.hours.specs.Zones.{zone_number};
-ghost use Rattle.hours.specs.declared.zones.Zone.TheVariants.{First};
 ghost use Rattle.hours.specs.Bounds.{Bounded, Cheap};
+ghost use Rattle.hours.specs.Marks.{RowsOf};
 ghost use Rattle.hours.specs.Month.{Finished, HasRead, HourRead, MonthRead, ReadsOn};
 ghost use Rattle.hours.specs.Opening.{Opened, each_cheap, book_open_refusal};
-ghost use Rattle.hours.specs.Reading.{after, answer, grown, hours_of, joined_at, needs_price, nothing, reading as read_with, too_large};
+ghost use Rattle.hours.specs.Reading.{after, answer, grown, hours_of, joined_at, needs_price, nothing, reading as read_with, too_large, zone_at};
 ghost use Rattle.hours.specs.Source.{next_hour, next_reading, next_state};
 
 use crate::book::{Book, Reading, Tally, Tariff, Terms, Unfinished};
@@ -15,7 +14,7 @@ use crate::marks::zones_of;
 use crate::prices::PriceSource;
 use crate::sums::{MonthSums, Totals};
 use crate::zones::Zone;
-use calendar::{Hour, Month};
+use calendar::Month;
 use faults::BookFault;
 
 // What an hour took from the grid or gave to it.
@@ -71,18 +70,26 @@ fn all_cheap(sale: &[u32; 3]) -> bool
     sale.iter().all(|price| *price <= 1_000_000)
 }
 
+// The row of each day of a month: the weekend's on a Saturday or Sunday, else the working days'.
+fn rows_of(month: &Month, working: [Zone; 24], weekend: [Zone; 24]) -> [[Zone; 24]; 31]
+    ensures { RowsOf month.now.number working weekend result }
+{
+    let mut rows = [working; 31];
+    for day in 0..31 {
+        if month.is_weekend(day) {
+            rows[usize::from(day)] = weekend;
+        }
+    }
+    rows
+}
+
 impl Terms {
-    // The zone of an hour, by the marks of its day.
-    fn zone_of(&self, hour: Hour) -> Zone
-        requires { hour.clock < 24 }
-        ensures { result ≡ slice_index_or (if hour.weekend then self.now.weekend else self.now.working) hour.clock First }
+    // The zone of the hour at a place; none past the month's end.
+    fn zone_at(&self, place: u16) -> Option<Zone>
+        ensures { elim result [ Some z ↦ (place < hours_of self.now) × (zone_number z ≡ zone_at self.now place) | None ↦ hours_of self.now ≤ place ] }
     {
-        let row = if hour.weekend {
-            &self.weekend
-        } else {
-            &self.working
-        };
-        row[usize::from(hour.clock)]
+        let even = self.month.even_place(place)?;
+        Some(self.rows.as_flattened()[usize::from(even)])
     }
 }
 
@@ -144,23 +151,22 @@ impl Book {
                 working,
                 weekend,
                 sale: tariff.sale,
+                rows: rows_of(&month, working, weekend),
             },
             tally: Tally::empty(),
         })
     }
 
-    // Joins the hour `hour`, whose import and export are in range; what it gives is paid at `rate`.
-    fn join(&mut self, hour: Hour, reading: Reading, rate: u32)
-        requires hour { Some hour ≡ hour_of self.old.terms.month.number self.old.tally.hours }
+    // Joins the next hour, of `zone`, whose import and export are in range; what it gives is paid at `rate`.
+    fn join(&mut self, zone: Zone, reading: Reading, rate: u32)
+        requires zone { zone_number zone ≡ zone_at self.old.terms self.old.tally.hours }
         requires room { self.old.tally.hours < hours_of self.old.terms }
-        requires clock { hour.clock < 24 }
         requires import { reading.import ≤ 100000 }
         requires export { reading.export ≤ 100000 }
         requires rate { rate ≤ 1000000 }
         ensures terms { self.new.terms ≡ self.old.terms }
         ensures tally { self.new.tally ≡ joined_at self.old.terms self.old.tally reading.import reading.export rate }
     {
-        let zone = self.terms.zone_of(hour);
         let sale = self.terms.sale[zone as usize];
         self.tally.add_hour(zone, reading.balance(), sale, rate);
     }
@@ -177,13 +183,13 @@ impl Book {
         if reading.is_too_large() {
             return Err(BookFault::ReadingTooLarge);
         }
-        let Some(hour) = self.terms.month.hour_at(self.tally.hours) else {
+        let Some(zone) = self.terms.zone_at(self.tally.hours) else {
             return Err(BookFault::BookComplete);
         };
         if price.is_none() && reading.import < reading.export {
             return Err(BookFault::NoPrice);
         }
-        self.join(hour, reading, rate_of(price));
+        self.join(zone, reading, rate_of(price));
         Ok(())
     }
 
