@@ -1,5 +1,5 @@
 -- A book after the next hour, and its prices.
-use Rattle.std.proofs.Common.{◌≡◌, ℕ, List, length, ℤ, Some, None, Ok, Err, Option, Result, sym, refl, ap, ◌∙◌, subst, arith}
+use Rattle.std.proofs.Common.{◌≡◌, ℕ, Bool, true, false, cond, List, length, ℤ, Some, None, Ok, Err, Option, Result, sym, refl, ap, ◌∙◌, subst, arith}
 use Rattle.std.proofs.lemmas.Iterator.Adapters.{option_map_id}
 use Rattle.std.specs.Option.{option_map}
 use Rattle.faults.specs.declared.BookFault.{BookFault}
@@ -15,10 +15,11 @@ use Rattle.desk.specs.Books.{hourly_at, price_at, hour_read_next, with_next_hour
 use Rattle.desk.specs.Means.{Holds, HoldsAfter, hours_are, hours_give, month_is, monthly_gives}
 
 -- asking leaves both prices as they were
-pub kept_prices : {A B : Type 0} (g : Option ℤ) (x x' : Option A) (y y' : Option B) →
-    ◌≡◌ {A = Option A × Option B} (x', y') (option_map (λ a. a) x, unless_some g y (option_map (λ b. b) y)) → (x' ≡ x) × (y' ≡ y)
-kept_prices None x x' y y' e = (ap (λ z. z.0) e ∙ option_map_id x, ap (λ z. z.1) e ∙ option_map_id y)
-kept_prices (Some z) x x' y y' e = (ap (λ z. z.0) e ∙ option_map_id x, ap (λ z. z.1) e)
+pub kept_prices : {A B : Type 0} (asks : Bool) (g : Option ℤ) (x x' : Option A) (y y' : Option B) →
+    ◌≡◌ {A = Option A × Option B} (x', y') (cond asks (option_map (λ a. a) x, unless_some g y (option_map (λ b. b) y)) (x, y)) → (x' ≡ x) × (y' ≡ y)
+kept_prices false g x x' y y' e = (ap (λ z. z.0) e, ap (λ z. z.1) e)
+kept_prices true None x x' y y' e = (ap (λ z. z.0) e ∙ option_map_id x, ap (λ z. z.1) e ∙ option_map_id y)
+kept_prices true (Some z) x x' y y' e = (ap (λ z. z.0) e ∙ option_map_id x, ap (λ z. z.1) e)
 
 -- the state with the next hour read, or not where it is refused
 abbrev after : ℕ → ℕ → BookState → Result (Unit {0}) BookFault → BookState

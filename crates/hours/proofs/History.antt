@@ -1,12 +1,13 @@
 -- What a book has read, hour after hour.
-use Rattle.std.proofs.Common.{◌≡◌, ℕ, zero, suc, ◌+◌, ◌-◌, ◌<◌, ◌≤◌, cond, eqb, ◌≢◌, List, [], ◌∷◌, ◌++◌, length, get_or, ℤ, Some, None, Option, Result, false, sym, refl, ap, ◌∙◌, subst, inl, inr, add-zero, add_assoc, add-suc, suc-add, zero-add, arith, lit≤, length-append, get_or-set_other, get_or-set_same}
+use Rattle.std.proofs.Common.{◌≡◌, ℕ, zero, suc, ◌+◌, ◌-◌, ◌<◌, ◌≤◌, cond, eqb, ◌≢◌, List, [], ◌∷◌, ◌++◌, length, get_or, ℤ, Some, None, Option, Result, sym, refl, ap, ◌∙◌, subst, inl, inr, add-zero, add_assoc, add-suc, suc-add, zero-add, arith, lit≤, length-append, get_or-set_other, get_or-set_same}
 use Rattle.std.proofs.lemmas.Bool.Decides.{eqb_tells, nat_tests}
 use Rattle.faults.specs.declared.BookFault.{BookFault}
+use Rattle.hours.specs.Price.{worth}
 use Rattle.hours.specs.Zones.{zone_number}
 use Rattle.hours.specs.declared.zones.Zone.{Zone}
 use Rattle.hours.specs.declared.zones.Zone.TheVariants.{First, Second, Third}
 use Rattle.hours.specs.Bounds.{Bounded}
-use Rattle.hours.specs.Reading.{hours_of, zone_at, more, joined, read_refusal, unless, reading, needs_price, answer, after, nothing}
+use Rattle.hours.specs.Reading.{hours_of, zone_at, more, joined, read_refusal, unless, reading, joined_at, ReadsIn, answer, after, nothing}
 use Rattle.hours.specs.Month.{HourRead, sum_over, taken_in, given_in, costs, earns, HasRead, ReadsOn}
 use Rattle.hours.specs.declared.book.Terms.{Terms}
 use Rattle.hours.specs.declared.book.Tally.{Tally}
@@ -83,9 +84,20 @@ reads_on t y i e g r y' answered left b =
     subst (λ (x : Result (Unit {0}) BookFault). ReadsOn t y h x y') (sym answered)
     (subst (λ (z : Tally). ReadsOn t y h (answer (reading t y i e g)) z) (sym left) (by_refusal t y i e g (read_refusal (hours_of t) y.hours i e g) b.0 b.1))
 
--- where no price is needed, none does as well as any
-pub unneeded : (t : Terms) (y : Tally) (i e : ℕ) (g : Option ℤ) → needs_price (hours_of t) y.hours i e ≡ false → reading t y i e None ≡ reading t y i e g
-unneeded t y i e g h = grind (arith, nat_tests)
+-- a reading that can be read is accepted where there is a price, and where none is needed
+pub accepted : (t : Terms) (y : Tally) (i e z : ℕ) (g : Option ℤ) → ReadsIn t y i e z → (g ≡ None → e ≤ i) → read_refusal (hours_of t) y.hours i e g ≡ None
+accepted t y i e z None r h =
+    let a = r.import in let b = r.export in let c = r.room in let d = h refl in grind (arith, nat_tests)
+accepted t y i e z (Some price) r h =
+    let a = r.import in let b = r.export in let c = r.room in grind (arith, nat_tests)
+
+-- and is joined to the tally at what the price is worth
+pub joins : (t : Terms) (y : Tally) (i e rate : ℕ) (g : Option ℤ) (y' : Tally) → read_refusal (hours_of t) y.hours i e g ≡ None → rate ≡ worth g → y' ≡ joined_at t y i e rate → y' ≡ after y (reading t y i e g)
+joins t y i e rate g y' n w j = j ∙ ap (joined_at t y i e) w ∙ sym (ap (λ f. after y (unless f (joined t y i e g))) n)
+
+-- where the export is not larger, no price does as well as any
+pub at_no_price : (t : Terms) (y : Tally) (i e : ℕ) (g : Option ℤ) → e ≤ i → reading t y i e None ≡ reading t y i e g
+at_no_price t y i e g h = grind (arith, nat_tests)
 
 zero_at : (k : ℕ) → ◌≡◌ {A = ℕ} (get_or (0 ∷ 0 ∷ 0 ∷ []) k 0) 0
 zero_at zero = refl

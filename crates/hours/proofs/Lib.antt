@@ -1,4 +1,5 @@
 pub mod History
+pub mod Calls
 pub mod Openings
 pub mod Months
 pub mod Closing

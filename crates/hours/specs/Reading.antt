@@ -1,5 +1,5 @@
 -- What reading an hour makes of a book.
-use Rattle.std.specs.Prelude.{ℕ, ◌+◌, ◌-◌, ◌*◌, Bool, false, cond, ◌||◌, List, [], ◌∷◌, ℤ, Some, None, Ok, Err, Option, Result, nat_le, nat_lt, slice_index, slice_index_or, slice_set}
+use Rattle.std.specs.Prelude.{◌≡◌, ℕ, ◌+◌, ◌-◌, ◌*◌, ◌<◌, ◌≤◌, Bool, false, cond, ◌||◌, List, [], ◌∷◌, ℤ, Some, None, Ok, Err, Option, Result, nat_le, nat_lt, slice_index, slice_index_or, slice_set}
 use Rattle.calendar.specs.Hour.{hour_of_place, month_hours}
 use Rattle.faults.specs.declared.BookFault.{BookFault}
 use Rattle.faults.specs.declared.BookFault.TheVariants.{ReadingTooLarge, BookComplete, NoPrice}
@@ -65,6 +65,21 @@ read_refusal hours p i e g =
 -- a reading needs a price where the hour can be read and its export is larger
 abbrev pub needs_price : ℕ → ℕ → ℕ → ℕ → Bool
 needs_price hours p i e = cond (too_large i e) false (cond (nat_le hours p) false (nat_lt i e))
+
+-- the reading can be read as the next hour, and it is one of zone z
+pub record ReadsIn (t : Terms) (y : Tally) (i e z : ℕ) : Type 0 where
+  pub import : i ≤ 100000
+  pub export : e ≤ 100000
+  pub room : y.hours < hours_of t
+  pub zone : z ≡ zone_at t y.hours
+
+-- the hour at place p of a month of so many hours can be read, with a price or without
+abbrev pub can_read : ℕ → ℕ → ℕ → ℕ → Bool
+can_read hours p i e = cond (too_large i e) false (nat_lt p hours)
+
+-- the reading is refused as the next hour, whatever the price there
+abbrev pub RefusedAnyhow : Terms → Tally → ℕ → ℕ → BookFault → Type 0
+RefusedAnyhow t y i e f = (g : Option ℤ) → read_refusal (hours_of t) y.hours i e g ≡ Some f
 
 -- a refusal, or else what is made
 abbrev pub unless : {A : Type 0} → Option BookFault → A → Result A BookFault

@@ -1,7 +1,7 @@
 -- What a book learns of its price source, and what it makes of it.
 use Rattle.std.specs.Prelude.{ℕ, cond, ℤ, Option, Result}
 use Rattle.faults.specs.declared.BookFault.{BookFault}
-use Rattle.hours.specs.Reading.{hours_of, needs_price, reading}
+use Rattle.hours.specs.Reading.{can_read, hours_of, needs_price, reading}
 use Rattle.hours.specs.Month.{HourRead}
 use Rattle.hours.specs.declared.prices.PriceSource.{Ghosts}
 use Rattle.hours.specs.declared.book.Terms.{Terms}
@@ -27,3 +27,7 @@ next_hour G s t y i e = record { import = i; export = e; price = next_price G s 
 abbrev pub next_state : {S : Type 0} → (G : Ghosts S) → S → Terms → Tally → ℕ → ℕ → G.State
 next_state G s t y i e =
     cond (needs_price (hours_of t) y.hours i e) (G.asked (G.state s) t.month.number y.hours) (G.state s)
+
+-- the source after a call that asks it wherever the hour can be read
+abbrev pub state_asked : {S : Type 0} → (G : Ghosts S) → S → Terms → Tally → ℕ → ℕ → G.State
+state_asked G s t y i e = cond (can_read (hours_of t) y.hours i e) (G.asked (G.state s) t.month.number y.hours) (G.state s)

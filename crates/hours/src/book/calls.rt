@@ -1,13 +1,13 @@
 // Opening a book, reading hours into it and finishing it.
 ghost use Rattle.std.specs.Prelude.{◌≡◌, ◌+◌, ◌-◌, ◌*◌, ◌<◌, ◌≤◌, true, List, [], IfOk, Some, None, Ok, Err};
-ghost use Rattle.hours.specs.Price.{Ranged, worth};
+ghost use Rattle.hours.specs.Price.{Ranged, positive};
 ghost use Rattle.hours.specs.Zones.{zone_number};
 ghost use Rattle.hours.specs.Bounds.{Bounded, Cheap};
 ghost use Rattle.hours.specs.Marks.{RowsOf};
 ghost use Rattle.hours.specs.Month.{Finished, HasRead, HourRead, MonthRead, ReadsOn};
 ghost use Rattle.hours.specs.Opening.{Opened, each_cheap, book_open_refusal};
-ghost use Rattle.hours.specs.Reading.{after, answer, grown, hours_of, joined_at, needs_price, nothing, reading as read_with, too_large, zone_at};
-ghost use Rattle.hours.specs.Source.{next_hour, next_reading, next_state};
+ghost use Rattle.hours.specs.Reading.{after, answer, grown, hours_of, nothing, reading as read_with, ReadsIn, RefusedAnyhow, too_large, zone_at};
+ghost use Rattle.hours.specs.Source.{next_hour, next_reading, next_state, state_asked};
 
 use crate::book::{Book, Reading, Tally, Tariff, Terms, Unfinished};
 use crate::marks::zones_of;
@@ -44,11 +44,11 @@ impl Reading {
     }
 }
 
-// What is paid for each Wh: a negative price counts as 0, and so does none.
-fn rate_of(price: Option<i32>) -> u32
-    ensures { result ≡ worth price }
+// What is paid for a price: a negative one counts as 0.
+fn rate_of(price: i32) -> u32
+    ensures { result ≡ positive price }
 {
-    price.map_or(0, |price| u32::try_from(price).unwrap_or(0))
+    price.max(0) as u32
 }
 
 // Energy at a price. Its bounds stand again on the two steps that hand the numbers on: a type for each would be taken apart at
@@ -122,8 +122,8 @@ impl Tally {
         let at = zone as usize;
         self.hours += 1;
         self.totals.import[at] += balance.taken;
-        self.totals.export[at] += balance.given;
         self.totals.charge += amount(balance.taken, sale);
+        self.totals.export[at] += balance.given;
         self.totals.value += amount(balance.given, rate);
     }
 }
@@ -157,49 +157,36 @@ impl Book {
         })
     }
 
-    // Joins the next hour, of `zone`, whose import and export are in range; what it gives is paid at `rate`.
-    fn join(&mut self, zone: Zone, reading: Reading, rate: u32)
-        requires zone { zone_number zone ≡ zone_at self.old.terms self.old.tally.hours }
-        requires room { self.old.tally.hours < hours_of self.old.terms }
-        requires import { reading.import ≤ 100000 }
-        requires export { reading.export ≤ 100000 }
-        requires rate { rate ≤ 1000000 }
-        ensures terms { self.new.terms ≡ self.old.terms }
-        ensures tally { self.new.tally ≡ joined_at self.old.terms self.old.tally reading.import reading.export rate }
+    // The zone of the next hour, where the reading can be read there.
+    fn next_zone(&self, reading: Reading) -> Result<Zone, BookFault>
+        ensures { elim result [ Ok zone ↦ ReadsIn self.now.terms self.now.tally reading.import reading.export (zone_number zone) | Err f ↦ RefusedAnyhow self.now.terms self.now.tally reading.import reading.export f ] }
     {
-        let sale = self.terms.sale[zone as usize];
-        self.tally.add_hour(zone, reading.balance(), sale, rate);
+        if reading.is_too_large() {
+            return Err(BookFault::ReadingTooLarge);
+        }
+        self.terms
+            .zone_at(self.tally.hours)
+            .ok_or(BookFault::BookComplete)
     }
 
-    // Reads the next hour at the price that there is for it. Which of import and export is larger decides no branch but where there
-    // is no price: from hour to hour it is as good as random.
-    fn read_priced(&mut self, reading: Reading, price: Option<i32>) -> Result<(), BookFault>
-        requires { Ranged price }
+    // Joins the next hour, of `zone`, at the price that there is for it. Which of import and export is larger decides no branch but
+    // where there is no price: from hour to hour it is as good as random.
+    fn join(&mut self, zone: Zone, reading: Reading, price: Option<i32>) -> Result<(), BookFault>
+        requires zone { ReadsIn self.old.terms self.old.tally reading.import reading.export (zone_number zone) }
+        requires price { Ranged price }
         ensures answer { result ≡ answer (read_with self.old.terms self.old.tally reading.import reading.export price) }
         ensures terms { self.new.terms ≡ self.old.terms }
         ensures tally { self.new.tally ≡ after self.old.tally (read_with self.old.terms self.old.tally reading.import reading.export price) }
         ensures bounded { Bounded self.old.tally.hours self.old.tally.totals }
     {
-        if reading.is_too_large() {
-            return Err(BookFault::ReadingTooLarge);
-        }
-        let Some(zone) = self.terms.zone_at(self.tally.hours) else {
-            return Err(BookFault::BookComplete);
+        let rate = match price {
+            Some(price) => rate_of(price),
+            None if reading.import < reading.export => return Err(BookFault::NoPrice),
+            None => 0,
         };
-        if price.is_none() && reading.import < reading.export {
-            return Err(BookFault::NoPrice);
-        }
-        self.join(zone, reading, rate_of(price));
+        let sale = self.terms.sale[zone as usize];
+        self.tally.add_hour(zone, reading.balance(), sale, rate);
         Ok(())
-    }
-
-    // The reading can be read next, and its export is larger.
-    fn needs_price(&self, reading: Reading) -> bool
-        ensures { result ≡ needs_price (hours_of self.now.terms) self.now.tally.hours reading.import reading.export }
-    {
-        !reading.is_too_large()
-            && self.tally.hours < self.terms.month.hours()
-            && reading.import < reading.export
     }
 
     // Reads the next hour. The source is asked only where the hour can be read and its export is larger.
@@ -214,16 +201,17 @@ impl Book {
         ensures asked { S.PriceSource.state source.new ≡ next_state S.PriceSource source.old self.old.terms self.old.tally reading.import reading.export }
         ensures history { ReadsOn self.old.terms self.old.tally (next_hour S.PriceSource source.old self.old.terms self.old.tally reading.import reading.export) result self.new.tally }
     {
-        let price = if self.needs_price(reading) {
+        let zone = self.next_zone(reading)?;
+        let price = if reading.import < reading.export {
             source.ask(self.terms.month.number(), self.tally.hours)
         } else {
             None
         };
-        self.read_priced(reading, price)
+        self.join(zone, reading, price)
     }
 
-    // Reads the next hour, and asks the source for its price whether it is needed or not: of use where asking costs less than to
-    // find out, and leaves the source as it was.
+    // Reads the next hour, and asks the source wherever the hour can be read: of use where asking costs less than to find out whether
+    // a price is needed.
     pub fn read_asking<S: PriceSource>(
         &mut self,
         reading: Reading,
@@ -232,11 +220,12 @@ impl Book {
         ensures answer { result ≡ answer (next_reading S.PriceSource source.old self.old.terms self.old.tally reading.import reading.export) }
         ensures terms { self.new.terms ≡ self.old.terms }
         ensures tally { self.new.tally ≡ after self.old.tally (next_reading S.PriceSource source.old self.old.terms self.old.tally reading.import reading.export) }
-        ensures asked { S.PriceSource.state source.new ≡ S.PriceSource.asked (S.PriceSource.state source.old) self.old.terms.month.number self.old.tally.hours }
+        ensures asked { S.PriceSource.state source.new ≡ state_asked S.PriceSource source.old self.old.terms self.old.tally reading.import reading.export }
         ensures history { ReadsOn self.old.terms self.old.tally (next_hour S.PriceSource source.old self.old.terms self.old.tally reading.import reading.export) result self.new.tally }
     {
+        let zone = self.next_zone(reading)?;
         let price = source.ask(self.terms.month.number(), self.tally.hours);
-        self.read_priced(reading, price)
+        self.join(zone, reading, price)
     }
 
     // The sums of a complete book; a book with hours missing is handed back.

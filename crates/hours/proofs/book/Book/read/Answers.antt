@@ -1,25 +1,47 @@
-use Rattle.std.proofs.Common.{◌≡◌, None, sym, ap, ◌∙◌, rules}
-use Rattle.hours.specs.Reading.{reading, answer, after}
-use Rattle.hours.specs.Source.{next_price, next_reading}
-use Rattle.hours.proofs.History.{reads_on, unneeded}
+use Rattle.std.proofs.Common.{◌≡◌, cond, Err, sym, ap, ◌∙◌, refl, rules}
+use Rattle.std.proofs.lemmas.Result.{err_from_is_err_and}
+use Rattle.hours.specs.Reading.{reading}
+use Rattle.hours.specs.Source.{next_price, next_state}
+use Rattle.hours.proofs.History.{at_no_price}
+use Rattle.hours.proofs.Calls.{was_read, was_refused, needed, not_needed, unneeded}
 use Rattle.hours.proofs.book.Book.read.Goals as goal
-use Rattle.hours.proofs.book.Book.read.Goals.{then-needs_price, else-needs_price}
+use Rattle.hours.proofs.book.Book.read.Goals.{then-reading, else-reading}
 
-pub returns : goal.returns
-returns g c =
+pub returns-in_err-zone : goal.returns-in_err-zone
+returns-in_err-zone g c =
+    let G = g.S.PriceSource in
+    let s = c.args.source.now in
     let t = c.args.self.now.terms in
     let y = c.args.self.now.tally in
     let i = c.args.reading.import in
     let e = c.args.reading.export in
+    let p = err_from_is_err_and c.from_residual.result c.from_residual.ensures.1 in
+    let a = was_refused t y i e (next_price G s t y) _ _ c.in_err-zone.ensures (p.1 ∙ ap Err p.2) in
+    let n = not_needed t y i e _ c.in_err-zone.ensures in
+    record { answer = a.answer; terms = refl; tally = a.tally; asked = sym (ap (λ b. cond b (G.asked (G.state s) t.month.number y.hours) (G.state s)) n); history = a.history }
+
+pub returns : goal.returns
+returns g c =
+    let G = g.S.PriceSource in
     let s = c.args.source.now in
-    let same : reading t y i e c.if-needs_price.price ≡ next_reading g.S.PriceSource s t y i e =
-    elim c.if-needs_price.branch [
-      | then-needs_price w ↦ ap (reading t y i e) (search rules)
-      | else-needs_price w ↦
-          let none : reading t y i e c.if-needs_price.price ≡ reading t y i e None = ap (reading t y i e) w.price-is in
-          none ∙ unneeded t y i e (next_price g.S.PriceSource s t y) (sym c.needs_price.ensures ∙ w.if-needs_price.false)
+    let t = c.args.self.now.terms in
+    let y = c.args.self.now.tally in
+    let i = c.args.reading.import in
+    let e = c.args.reading.export in
+    let z = c.in_ok-zone.ensures in
+    let same : reading t y i e c.if-reading.price ≡ reading t y i e (next_price G s t y) = elim c.if-reading.branch [
+      | then-reading w ↦ ap (reading t y i e) (search rules)
+      | else-reading w ↦ ap (reading t y i e) w.price-is ∙ at_no_price t y i e (next_price G s t y) w.if-reading.false
     ] in
-    let done = c.read_priced.ensures in
-    let answered = done.answer ∙ ap answer same in
-    let left = done.tally ∙ ap (after y) same in
-    record { answer = answered; terms = done.terms; tally = left; asked = search rules; history = reads_on t y i e (next_price g.S.PriceSource s t y) _ _ answered left done.bounded }
+    let asked : G.state c.if-reading.source ≡ next_state G s t y i e = elim c.if-reading.branch [
+      | then-reading w ↦
+          let n = needed t y i e _ z w.if-reading.true in
+          let after : G.state w.ask-price.new.self ≡ G.asked (G.state s) t.month.number y.hours = search rules in
+          ap G.state w.source-is ∙ after ∙ sym (ap (λ b. cond b (G.asked (G.state s) t.month.number y.hours) (G.state s)) n)
+      | else-reading w ↦
+          let n = unneeded t y i e _ z w.if-reading.false in
+          ap G.state w.source-is ∙ sym (ap (λ b. cond b (G.asked (G.state s) t.month.number y.hours) (G.state s)) n)
+    ] in
+    let done = c.join.ensures in
+    let a = was_read t y i e (next_price G s t y) c.if-reading.price _ _ same done.answer done.tally done.bounded in
+    record { answer = a.answer; terms = done.terms; tally = a.tally; asked = asked; history = a.history }

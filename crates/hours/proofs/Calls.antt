@@ -1,0 +1,48 @@
+-- What the two calls that read an hour come to: one asks its source where a price is needed, the other wherever the hour can be read.
+use Rattle.std.proofs.Common.{◌≡◌, ℕ, ◌<◌, ◌≤◌, true, false, ℤ, pos, Some, Err, Option, Result, sym, ap, ◌∙◌, subst, arith}
+use Rattle.std.proofs.lemmas.Bool.Decides.{nat_tests}
+use Rattle.faults.specs.declared.BookFault.{BookFault}
+use Rattle.hours.specs.Bounds.{Bounded}
+use Rattle.hours.specs.Reading.{ReadsIn, RefusedAnyhow, hours_of, joined, needs_price, can_read, unless, reading, answer, after}
+use Rattle.hours.specs.Month.{ReadsOn, HasRead, noted}
+use Rattle.hours.specs.declared.book.Terms.{Terms}
+use Rattle.hours.specs.declared.book.Tally.{Tally}
+use Rattle.hours.proofs.History.{reads_on}
+
+-- a call answered and left the tally as reading the hour at the price g does
+pub record Answered (t : Terms) (y : Tally) (i e : ℕ) (g : Option ℤ) (r : Result (Unit {0}) BookFault) (y' : Tally) : Type 0 where
+  pub answer : r ≡ answer (reading t y i e g)
+  pub tally : y' ≡ after y (reading t y i e g)
+  pub history : ReadsOn t y (record { import = i; export = e; price = g }) r y'
+
+pub was_read : (t : Terms) (y : Tally) (i e : ℕ) (g p : Option ℤ) (r : Result (Unit {0}) BookFault) (y' : Tally) → reading t y i e p ≡ reading t y i e g
+    → r ≡ answer (reading t y i e p) → y' ≡ after y (reading t y i e p) → Bounded y.hours y.totals → Answered t y i e g r y'
+was_read t y i e g p r y' same a l b =
+    let answered : r ≡ answer (reading t y i e g) = a ∙ ap answer same in
+    let left : y' ≡ after y (reading t y i e g) = l ∙ ap (after y) same in
+    record { answer = answered; tally = left; history = reads_on t y i e g r y' answered left b }
+
+pub was_refused : (t : Terms) (y : Tally) (i e : ℕ) (g : Option ℤ) (f : BookFault) (r : Result (Unit {0}) BookFault) → RefusedAnyhow t y i e f → r ≡ Err f → Answered t y i e g r y
+was_refused t y i e g f r h q = record {
+  answer = q ∙ sym (ap (λ o. answer (unless o (joined t y i e g))) (h g));
+  tally = sym (ap (λ o. after y (unless o (joined t y i e g))) (h g));
+  history = λ hs had. subst (λ (x : Result (Unit {0}) BookFault). HasRead t (noted hs (record { import = i; export = e; price = g }) x) y) (sym q) had;
+}
+
+-- where a reading is refused at any price, none is needed
+pub not_needed : (t : Terms) (y : Tally) (i e : ℕ) (f : BookFault) → RefusedAnyhow t y i e f → needs_price (hours_of t) y.hours i e ≡ false
+not_needed t y i e f h = let k = h (Some (pos 0)) in grind (arith, nat_tests)
+
+pub not_read : (t : Terms) (y : Tally) (i e : ℕ) (f : BookFault) → RefusedAnyhow t y i e f → can_read (hours_of t) y.hours i e ≡ false
+not_read t y i e f h = let k = h (Some (pos 0)) in grind (arith, nat_tests)
+
+module _ (t : Terms) (y : Tally) (i e z : ℕ) (r : ReadsIn t y i e z) where
+  -- where it can be read, one is needed if the export is larger
+  pub needed : i < e → needs_price (hours_of t) y.hours i e ≡ true
+  needed h = let a = r.import in let b = r.export in let c = r.room in grind (arith, nat_tests)
+
+  pub unneeded : e ≤ i → needs_price (hours_of t) y.hours i e ≡ false
+  unneeded h = let a = r.import in let b = r.export in let c = r.room in grind (arith, nat_tests)
+
+  pub readable : can_read (hours_of t) y.hours i e ≡ true
+  readable = let a = r.import in let b = r.export in let c = r.room in grind (arith, nat_tests)
