@@ -61,7 +61,8 @@ impl OpenBook {
         Ok(())
     }
 
-    // Reads the next hour. The prices are asked at each that can be read: asking leaves them as they are.
+    // Reads the next hour. The prices are asked at each that can be read: asking leaves them as they are. Inlined for the
+    // loop of `read_on`.
     #[inline(always)]
     pub(crate) fn read(&mut self, reading: Reading) -> Result<(), BookFault>
         ensures { (s : BookState) → Holds self.old s → HoldsAfter (hour_refusal reading.import reading.export s) s (with_next_hour reading.import reading.export s) result self.new }

@@ -29,7 +29,7 @@ impl Reading {
     fn is_too_large(self) -> bool
         ensures { result ≡ too_large self.import self.export }
     {
-        self.import.max(self.export) > 100_000
+        self.import > 100_000 || self.export > 100_000
     }
 
     // The difference import − export, a signed number, split by its sign: one of the two is 0.
@@ -158,6 +158,7 @@ impl Book {
     }
 
     // The zone of the next hour, where the reading can be read there.
+    #[inline(always)]
     fn next_zone(&self, reading: Reading) -> Result<Zone, BookFault>
         ensures { elim result [ Ok zone ↦ ReadsIn self.now.terms self.now.tally reading.import reading.export (zone_number zone) | Err f ↦ RefusedAnyhow self.now.terms self.now.tally reading.import reading.export f ] }
     {
@@ -171,6 +172,7 @@ impl Book {
 
     // Joins the next hour, of `zone`, at the price that there is for it. Which of import and export is larger decides no branch but
     // where there is no price: from hour to hour it is as good as random.
+    #[inline(always)]
     fn join(&mut self, zone: Zone, reading: Reading, price: Option<i32>) -> Result<(), BookFault>
         requires zone { ReadsIn self.old.terms self.old.tally reading.import reading.export (zone_number zone) }
         requires price { Ranged price }
@@ -211,7 +213,8 @@ impl Book {
     }
 
     // Reads the next hour, and asks the source wherever the hour can be read: of use where asking costs less than to find out whether
-    // a price is needed.
+    // a price is needed. Inlined with what it calls, so that a caller's loop keeps in registers what no reading changes.
+    #[inline(always)]
     pub fn read_asking<S: PriceSource>(
         &mut self,
         reading: Reading,
