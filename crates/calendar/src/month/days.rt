@@ -69,7 +69,7 @@ impl Month {
         self.hours
     }
 
-    // Day `day`, counted from 0, is a Saturday or a Sunday.
+    // Day `day`, counted from 0, is a Saturday or a Sunday; past the month's end, as if it went on.
     pub fn is_weekend(&self, day: u8) -> bool
         ensures { result ≡ nat_le 5 (weekday self.now.number day) }
     {

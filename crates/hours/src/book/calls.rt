@@ -122,8 +122,8 @@ impl Tally {
         let at = zone as usize;
         self.hours += 1;
         self.totals.import[at] += balance.taken;
-        self.totals.charge += amount(balance.taken, sale);
         self.totals.export[at] += balance.given;
+        self.totals.charge += amount(balance.taken, sale);
         self.totals.value += amount(balance.given, rate);
     }
 }
@@ -170,7 +170,7 @@ impl Book {
             .ok_or(BookFault::BookComplete)
     }
 
-    // Joins the next hour, of `zone`, at the price that there is for it. Which of import and export is larger decides no branch but
+    // Joins the next hour, of `zone`, at the price that there is for it. Nothing branches on which of import and export is larger but
     // where there is no price: from hour to hour it is as good as random.
     #[inline(always)]
     fn join(&mut self, zone: Zone, reading: Reading, price: Option<i32>) -> Result<(), BookFault>

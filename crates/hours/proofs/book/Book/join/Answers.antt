@@ -1,12 +1,10 @@
-use Rattle.std.proofs.Common.{◌≡◌, ℤ, Some, None, sym, ◌∙◌, rules}
+use Rattle.std.proofs.Common.{◌≡◌, None, sym, ◌∙◌, rules}
+use Rattle.std.proofs.lemmas.Option.{none-some}
 use Rattle.hours.specs.Price.{worth}
 use Rattle.hours.specs.Reading.{joined_at, read_refusal, hours_of}
 use Rattle.hours.proofs.History.{accepted, joins}
 use Rattle.hours.proofs.book.Book.join.Goals as goal
 use Rattle.hours.proofs.book.Book.join.Goals.{in-Some, in-None-2}
-
-some_is_none : (z : ℤ) → Some z ≡ None → ⊥
-some_is_none z q = cc
 
 pub returns-clause-tally : goal.returns-clause-tally
 returns-clause-tally c =
@@ -16,7 +14,7 @@ returns-clause-tally c =
     let e = c.args.reading.export in
     let value : c.add_hour.new.self ≡ joined_at t y i e c.match-price.rate = let z = c.requires.zone.zone in search rules in
     let none : read_refusal (hours_of t) y.hours i e c.args.price ≡ None = elim c.match-price.branch [
-      | in-Some w ↦ accepted t y i e _ c.args.price c.requires.zone (λ q. absurd (some_is_none _ (sym w.in-Some.is ∙ q)))
+      | in-Some w ↦ accepted t y i e _ c.args.price c.requires.zone (λ q. absurd (none-some _ (sym q ∙ w.in-Some.is)))
       | in-None-2 w ↦ accepted t y i e _ c.args.price c.requires.zone (λ _. w.if-reading.false)
     ] in
     let rate : c.match-price.rate ≡ worth c.args.price = elim c.match-price.branch [ in-Some w ↦ search rules | in-None-2 w ↦ search rules ] in

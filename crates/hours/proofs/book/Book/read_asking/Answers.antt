@@ -1,8 +1,8 @@
-use Rattle.std.proofs.Common.{◌≡◌, cond, Err, sym, ap, ◌∙◌, refl, rules}
+use Rattle.std.proofs.Common.{◌≡◌, Err, ap, ◌∙◌, refl, rules}
 use Rattle.std.proofs.lemmas.Result.{err_from_is_err_and}
 use Rattle.hours.specs.Reading.{reading}
 use Rattle.hours.specs.Source.{next_price, state_asked}
-use Rattle.hours.proofs.Calls.{was_read, was_refused, not_read, readable}
+use Rattle.hours.proofs.Calls.{reading_comes, refusal_comes, if_asked, if_unasked, not_read, readable}
 use Rattle.hours.proofs.book.Book.read_asking.Goals as goal
 
 pub returns-in_err-zone : goal.returns-in_err-zone
@@ -14,9 +14,9 @@ returns-in_err-zone g c =
     let i = c.args.reading.import in
     let e = c.args.reading.export in
     let p = err_from_is_err_and c.from_residual.result c.from_residual.ensures.1 in
-    let a = was_refused t y i e (next_price G s t y) _ _ c.in_err-zone.ensures (p.1 ∙ ap Err p.2) in
+    let a = refusal_comes t y i e (next_price G s t y) _ _ c.in_err-zone.ensures (p.1 ∙ ap Err p.2) in
     let n = not_read t y i e _ c.in_err-zone.ensures in
-    record { answer = a.answer; terms = refl; tally = a.tally; asked = sym (ap (λ b. cond b (G.asked (G.state s) t.month.number y.hours) (G.state s)) n); history = a.history }
+    record { answer = a.answer; terms = refl; tally = a.tally; asked = if_unasked _ _ _ n; history = a.history }
 
 pub returns : goal.returns
 returns g c =
@@ -29,7 +29,7 @@ returns g c =
     let n = readable t y i e _ c.in_ok-zone.ensures in
     let done = c.join.ensures in
     let same : reading t y i e c.ask-price.result ≡ reading t y i e (next_price G s t y) = ap (reading t y i e) (search rules) in
-    let a = was_read t y i e (next_price G s t y) c.ask-price.result _ _ same done.answer done.tally done.bounded in
+    let a = reading_comes t y i e (next_price G s t y) c.ask-price.result _ _ same done.answer done.tally done.bounded in
     let after : G.state c.ask-price.new.self ≡ G.asked (G.state s) t.month.number y.hours = search rules in
-    let asked : G.state c.ask-price.new.self ≡ state_asked G s t y i e = after ∙ sym (ap (λ b. cond b (G.asked (G.state s) t.month.number y.hours) (G.state s)) n) in
+    let asked : G.state c.ask-price.new.self ≡ state_asked G s t y i e = after ∙ if_asked _ _ _ n in
     record { answer = a.answer; terms = done.terms; tally = a.tally; asked = asked; history = a.history }
