@@ -2,7 +2,7 @@
 use Rattle.std.proofs.Common.{◌≡◌, ℕ, IsErrAnd, Some, None, Ok, Err, Option, Result, refl, arith}
 use Rattle.faults.specs.declared.AccountFault.{AccountFault}
 use Rattle.settlement.specs.declared.states.MonthState.{MonthState}
-use Rattle.settlement.specs.Answers.{answers, becomes}
+use Rattle.ledger.specs.Calls.{answers, becomes}
 
 pub refused : {V X : Type 0} (o : Option AccountFault) (fault : AccountFault) (v : MonthState) (w : V) (r : Result V AccountFault) (new old : X) →
     Err fault ≡ answers o v → IsErrAnd r (λ y. y ≡ fault) → (r ≡ answers o w) × (old ≡ becomes o new old)

@@ -9,7 +9,8 @@ use Rattle.hours.specs.Reading.{hours_of, zone_at}
 use Rattle.hours.specs.Opening.{book_open_refusal, Opened}
 use Rattle.hours.specs.Month.{HourRead, sum_over, taken_in, given_in, costs, Sums, HasRead, Finished}
 use Rattle.hours.specs.Source.{prices_of}
-use Rattle.hours.specs.Whole.{hours_from, MonthSummed, refused_at, refused_from, first, missing, month_refusal, until_refused, questions_from, month_questions, asked_for}
+use Rattle.std.specs.Option.{option_or}
+use Rattle.hours.specs.Whole.{hours_from, MonthSummed, refused_at, refused_from, missing, month_refusal, until_refused, questions_from, month_questions, asked_for}
 use Rattle.hours.specs.declared.prices.PriceSource.{Ghosts}
 use Rattle.hours.specs.declared.book.Reading.{Reading}
 use Rattle.hours.specs.declared.book.Terms.{Terms}
@@ -72,8 +73,8 @@ refused_at_end : (m : ℕ) (marks : List (List ℕ)) (sale : List ℕ) (prices :
     → book_open_refusal m marks sale ≡ None → None ≡ refused_from (month_hours m) prices 0 rs → missing (month_hours m) rs ≡ f
     → month_refusal m marks sale prices rs ≡ refused_at (length rs) f None
 refused_at_end m marks sale prices rs f a b c =
-    ap (λ o. refused_at 0 o (first (refused_from (month_hours m) prices 0 rs) (refused_at (length rs) (missing (month_hours m) rs) None))) a
-    ∙ ap (λ o. first o (refused_at (length rs) (missing (month_hours m) rs) None)) (sym b)
+    ap (λ o. refused_at 0 o (option_or (refused_from (month_hours m) prices 0 rs) (refused_at (length rs) (missing (month_hours m) rs) None))) a
+    ∙ ap (λ o. option_or o (refused_at (length rs) (missing (month_hours m) rs) None)) (sym b)
     ∙ ap (λ o. refused_at (length rs) o None) c
 
 complete_month : (m : ℕ) (marks : List (List ℕ)) (sale : List ℕ) (prices : ℕ → Option ℤ) (rs : List Reading)

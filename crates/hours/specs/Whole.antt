@@ -1,5 +1,6 @@
 -- A whole month, from the list of its readings.
 use Rattle.std.specs.Prelude.{◌≡◌, ℕ, suc, Bool, true, false, cond, List, [], ◌∷◌, length, ℤ, Some, None, fold, Option, nat_lt}
+use Rattle.std.specs.Option.{option_or}
 use Rattle.calendar.specs.Hour.{month_hours}
 use Rattle.faults.specs.declared.BookFault.{BookFault}
 use Rattle.faults.specs.declared.BookFault.TheVariants.{HoursMissing}
@@ -34,11 +35,6 @@ refused_from hours prices k [] = None
 refused_from hours prices k (r ∷ rs) =
     refused_at k (read_refusal hours k r.import r.export (prices k)) (refused_from hours prices (suc k) rs)
 
--- the first of two refusals
-abbrev pub first : Option MonthRefused → Option MonthRefused → Option MonthRefused
-first (Some r) later = Some r
-first None later = later
-
 -- hours are missing at the list's end
 abbrev pub missing : ℕ → List Reading → Option BookFault
 missing hours rs = cond (nat_lt (length rs) hours) (Some HoursMissing) None
@@ -47,7 +43,7 @@ missing hours rs = cond (nat_lt (length rs) hours) (Some HoursMissing) None
 abbrev pub month_refusal : ℕ → List (List ℕ) → List ℕ → (ℕ → Option ℤ) → List Reading → Option MonthRefused
 month_refusal m marks sale prices rs =
     refused_at 0 (book_open_refusal m marks sale)
-    (first (refused_from (month_hours m) prices 0 rs) (refused_at (length rs) (missing (month_hours m) rs) None))
+    (option_or (refused_from (month_hours m) prices 0 rs) (refused_at (length rs) (missing (month_hours m) rs) None))
 
 -- nothing more after a refusal
 abbrev pub until_refused : Option BookFault → List ℕ → List ℕ

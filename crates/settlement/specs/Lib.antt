@@ -5,7 +5,6 @@ pub mod Table
 pub mod Bounds
 pub mod Lines
 pub mod Standing
-pub mod Answers
 pub mod Accounts
 pub mod Steps
 pub mod History

@@ -5,7 +5,7 @@ use Rattle.std.specs.Result.{result_err}
 use Rattle.faults.specs.declared.AccountFault.{AccountFault}
 use Rattle.faults.specs.declared.AccountFault.TheVariants.{InStore, NotOpen, OtherMonth, TooFewLines}
 use Rattle.faults.specs.declared.StoreFault.TheVariants.{LastMonth}
-pub use Rattle.ledger.specs.Calls.{asks}
+use Rattle.ledger.specs.Calls.{asks}
 use Rattle.settlement.specs.declared.standing.Standing.{Standing}
 use Rattle.settlement.specs.declared.states.Call.{Call}
 use Rattle.settlement.specs.declared.states.Call.TheVariants.{Enter, Settle, Turn}

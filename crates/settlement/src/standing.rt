@@ -2,7 +2,7 @@
 ghost use Rattle.std.specs.Prelude.{◌≡◌, if◌then◌else◌, Ok, Err, nat_lt};
 ghost use Rattle.faults.specs.declared.StoreFault.TheVariants.{LastMonth};
 ghost use Rattle.settlement.specs.declared.states.MonthState.TheVariants as state;
-ghost use Rattle.settlement.specs.Answers.{answers};
+ghost use Rattle.ledger.specs.Calls.{answers};
 ghost use Rattle.settlement.specs.Standing.{enter_refusal, settle_refusal, turn_refusal};
 
 use crate::states::{Call, MonthState};

@@ -4,7 +4,7 @@ use Rattle.portions.specs.Listed.{listed}
 use Rattle.store.proofs.Lawful.{lawful_rule}
 use Rattle.settlement.specs.Zones.{each, each_two}
 use Rattle.settlement.specs.declared.states.MonthState.TheVariants.{Settled}
-use Rattle.settlement.specs.Answers.{answers}
+use Rattle.ledger.specs.Calls.{answers}
 use Rattle.settlement.specs.Standing.{settle_refusal}
 use Rattle.settlement.specs.Accounts.{refusal}
 use Rattle.settlement.specs.Accounts.Call.{settle}
