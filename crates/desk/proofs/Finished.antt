@@ -1,6 +1,5 @@
 -- A complete book.
-use Rattle.std.proofs.Common.{◌≡◌, ℕ, ◌<◌, cond, ltb, length, Some, None, Ok, Err, Result, sym, ap, ◌∙◌, subst, arith}
-use Rattle.std.proofs.lemmas.Bool.Decides.{nat_tests}
+use Rattle.std.proofs.Common.{◌≡◌, ℕ, ◌<◌, length, Some, None, Ok, Err, Result, sym, ap, ◌∙◌, subst}
 use Rattle.std.proofs.lemmas.Result.{err_from_is_err_and}
 use Rattle.std.specs.Result.{MatchResult, IsErrAnd}
 use Rattle.faults.specs.declared.BookFault.TheVariants.{HoursMissing}
@@ -10,6 +9,7 @@ use Rattle.hours.specs.Month.{Finished}
 use Rattle.hours.specs.declared.book.Book.{Book}
 use Rattle.hours.specs.declared.book.Unfinished.{Unfinished}
 use Rattle.hours.specs.declared.sums.MonthSums.{MonthSums}
+use Rattle.hours.proofs.Closing.{none_missing, some_missing}
 use Rattle.hours.proofs.Summed.{finished_sums}
 use Rattle.desk.specs.declared.book.OpenBook.{OpenBook}
 use Rattle.desk.specs.declared.book.Incomplete.{Incomplete}
@@ -17,20 +17,14 @@ use Rattle.desk.specs.State.{BookState}
 use Rattle.desk.specs.Books.{finish_refusal, book_sums}
 use Rattle.desk.specs.Means.{Holds, Kept}
 
-none_missing : {F : Type 0} (fault : F) (n m : ℕ) → n ≡ m → cond (ltb n m) (Some fault) None ≡ None
-none_missing fault n m e = grind (arith, nat_tests)
-
 -- a book that has all its hours is not refused
 pub complete : (b : OpenBook) (s : BookState) → Holds b s → b.book.tally.hours ≡ hours_of b.book.terms → finish_refusal s ≡ None
-complete b s holds e = none_missing _ (length s.hours) (month_hours s.month) (sym holds.read.hours ∙ e ∙ ap month_hours holds.month)
-
-some_missing : {F : Type 0} (fault : F) (n m : ℕ) → n < m → cond (ltb n m) (Some fault) None ≡ Some fault
-some_missing fault n m e = grind (arith, nat_tests)
+complete b s holds e = none_missing (month_hours s.month) s.hours (sym holds.read.hours ∙ e ∙ ap month_hours holds.month)
 
 -- a book that has fewer is
 missing : (b : OpenBook) (s : BookState) → Holds b s → b.book.tally.hours < hours_of b.book.terms → finish_refusal s ≡ Some HoursMissing
 missing b s holds less =
-    some_missing _ (length s.hours) (month_hours s.month) (subst (λ (n : ℕ). length s.hours < n) (ap month_hours holds.month) (subst (λ (n : ℕ). n < hours_of b.book.terms) holds.read.hours less))
+    some_missing (month_hours s.month) s.hours (subst (λ (n : ℕ). length s.hours < n) (ap month_hours holds.month) (subst (λ (n : ℕ). n < hours_of b.book.terms) holds.read.hours less))
 
 -- what the month book inside answers when it is finished
 abbrev pub Answered : OpenBook → Result MonthSums Unfinished → Type 0

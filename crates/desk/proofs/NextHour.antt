@@ -1,10 +1,10 @@
 -- A book after the next hour, and its prices.
 use Rattle.std.proofs.Common.{◌≡◌, ℕ, Bool, true, false, cond, List, length, ℤ, Some, None, Ok, Err, Option, Result, sym, refl, ap, ◌∙◌, subst, arith}
 use Rattle.std.proofs.lemmas.Iterator.Adapters.{option_map_id}
-use Rattle.std.specs.Option.{option_map}
+use Rattle.std.specs.Option.{option_map, option_or}
 use Rattle.faults.specs.declared.BookFault.{BookFault}
 use Rattle.calendar.specs.Hour.{month_hours}
-use Rattle.hours.specs.Price.{or_else, unless_some}
+use Rattle.hours.specs.Price.{unless_some}
 use Rattle.hours.specs.Reading.{zone_at, answer, reading, read_refusal, unless, joined}
 use Rattle.hours.specs.Month.{HourRead, HasRead, noted}
 use Rattle.hours.specs.declared.book.Terms.{Terms}
@@ -35,14 +35,14 @@ by_answer b s i e (Err x) (Some f) y ef er h = let q : Some f ≡ Some x = cc in
 module _ (b : OpenBook) (s : BookState) (holds : Holds b s) where
   -- the price that the book's sources give for the next hour
   abbrev pub price_given : Option ℤ
-  price_given = or_else (hours_give (hours_are b.prices.upper) b.book.terms.month.number b.book.tally.hours) (monthly_gives (month_is b.prices.lower) b.book.terms.month.number b.book.tally.hours)
+  price_given = option_or (hours_give (hours_are b.prices.upper) b.book.terms.month.number b.book.tally.hours) (monthly_gives (month_is b.prices.lower) b.book.terms.month.number b.book.tally.hours)
 
   price_is : price_given ≡ price_at s (length s.hours)
   price_is =
-      ap (λ m. or_else (hours_give (hours_are b.prices.upper) m b.book.tally.hours) (monthly_gives (month_is b.prices.lower) m b.book.tally.hours)) holds.month
-      ∙ ap (λ p. or_else (hours_give (hours_are b.prices.upper) s.month p) (monthly_gives (month_is b.prices.lower) s.month p)) holds.read.hours
-      ∙ ap (λ g. or_else g (monthly_gives (month_is b.prices.lower) s.month (length s.hours))) (holds.hourly (length s.hours))
-      ∙ ap (λ g. or_else (hourly_at s.hourly (length s.hours)) g) (holds.monthly (length s.hours))
+      ap (λ m. option_or (hours_give (hours_are b.prices.upper) m b.book.tally.hours) (monthly_gives (month_is b.prices.lower) m b.book.tally.hours)) holds.month
+      ∙ ap (λ p. option_or (hours_give (hours_are b.prices.upper) s.month p) (monthly_gives (month_is b.prices.lower) s.month p)) holds.read.hours
+      ∙ ap (λ g. option_or g (monthly_gives (month_is b.prices.lower) s.month (length s.hours))) (holds.hourly (length s.hours))
+      ∙ ap (λ g. option_or (hourly_at s.hourly (length s.hours)) g) (holds.monthly (length s.hours))
 
   refusal_is : (i e : ℕ) → read_refusal (month_hours b.book.terms.month.number) b.book.tally.hours i e price_given ≡ hour_refusal i e s
   refusal_is i e =

@@ -1,9 +1,11 @@
 -- What records do to the book.
 use Rattle.std.specs.Prelude.{ℕ, Bool, true, cond, ◌&&◌, List, [], ◌∷◌, ◌++◌, length, ℤ, pos, negsuc, Some, None, Option, nat_le, nat_lt, slice_index_or}
+use Rattle.std.specs.Option.{option_or}
 use Rattle.faults.specs.declared.BookFault.{BookFault}
-use Rattle.faults.specs.declared.BookFault.TheVariants.{PriceOutOfRange, HoursMissing}
+use Rattle.faults.specs.declared.BookFault.TheVariants.{PriceOutOfRange}
 use Rattle.calendar.specs.Hour.{month_hours}
-use Rattle.hours.specs.Price.{or_else, when}
+use Rattle.hours.specs.Price.{when}
+use Rattle.hours.specs.Whole.{missing}
 use Rattle.hours.specs.Marks.{zone_by_marks}
 use Rattle.hours.specs.Reading.{read_refusal}
 use Rattle.hours.specs.Month.{HourRead}
@@ -21,7 +23,7 @@ hourly_at prices p = when (nat_lt p (length prices)) (slice_index_or prices p (p
 
 -- the price at a place: the hour price stands over the month price
 abbrev pub price_at : BookState → ℕ → Option ℤ
-price_at b p = or_else (hourly_at b.hourly p) b.monthly
+price_at b p = option_or (hourly_at b.hourly p) b.monthly
 
 -- a price is in range: from −1,000,000 to 1,000,000
 abbrev pub price_in_range : ℤ → Bool
@@ -60,7 +62,7 @@ hour_refusal import export b = read_refusal (month_hours b.month) (length b.hour
 
 -- why the book is not finished
 abbrev pub finish_refusal : BookState → Option BookFault
-finish_refusal b = cond (nat_lt (length b.hours) (month_hours b.month)) (Some HoursMissing) None
+finish_refusal b = missing (month_hours b.month) b.hours
 
 -- the sums of its month: over the hours read, zone by zone; a complete book has them
 abbrev pub book_sums : BookState → Option MonthSums

@@ -1,6 +1,7 @@
 -- A month that was opened, read and finished.
 use Rattle.std.proofs.Common.{◌≡◌, ℕ, suc, ◌+◌, ◌-◌, ◌<◌, cond, eqb, List, [], ◌∷◌, length, ℤ, Some, None, Option, sym, refl, ap, ◌∙◌, subst, arith}
 use Rattle.std.proofs.lemmas.Bool.Decides.{nat_tests}
+use Rattle.std.specs.Option.{option_or}
 use Rattle.calendar.specs.Hour.{month_hours}
 use Rattle.faults.specs.declared.BookFault.{BookFault}
 use Rattle.faults.specs.declared.BookFault.TheVariants.{HoursMissing}
@@ -9,7 +10,6 @@ use Rattle.hours.specs.Reading.{hours_of, zone_at}
 use Rattle.hours.specs.Opening.{book_open_refusal, Opened}
 use Rattle.hours.specs.Month.{HourRead, sum_over, taken_in, given_in, costs, Sums, HasRead, Finished}
 use Rattle.hours.specs.Source.{prices_of}
-use Rattle.std.specs.Option.{option_or}
 use Rattle.hours.specs.Whole.{hours_from, MonthSummed, refused_at, refused_from, missing, month_refusal, until_refused, questions_from, month_questions, asked_for}
 use Rattle.hours.specs.declared.prices.PriceSource.{Ghosts}
 use Rattle.hours.specs.declared.book.Reading.{Reading}
@@ -62,10 +62,10 @@ summed m marks sale prices rs t t' y₀ y month totals o e r f₁ =
           (marked_sums t m marks sale (hours_from prices 0 rs) y.totals o.sales n o.zones r.sums);
     }
 
-none_missing : (hours : ℕ) (rs : List Reading) → length rs ≡ hours → missing hours rs ≡ None
+pub none_missing : {A : Type 0} (hours : ℕ) (rs : List A) → length rs ≡ hours → missing hours rs ≡ None
 none_missing hours rs h = grind (arith, nat_tests)
 
-some_missing : (hours : ℕ) (rs : List Reading) → length rs < hours → missing hours rs ≡ Some HoursMissing
+pub some_missing : {A : Type 0} (hours : ℕ) (rs : List A) → length rs < hours → missing hours rs ≡ Some HoursMissing
 some_missing hours rs h = grind (arith, nat_tests)
 
 -- a month that is opened and read to the list's end is refused only for hours that are missing

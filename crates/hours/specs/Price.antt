@@ -14,11 +14,6 @@ abbrev pub Ranged : Option ℤ → Type 0
 Ranged None = Unit {0}
 Ranged (Some z) = Priced z
 
--- the upper answer, or the lower one where the upper has none
-abbrev pub or_else : Option ℤ → Option ℤ → Option ℤ
-or_else (Some z) b = Some z
-or_else None b = b
-
 -- what asking makes of the lower of two sources: nothing where the upper one gave a price
 abbrev pub unless_some : {A : Type 0} → Option ℤ → A → A → A
 unless_some (Some z) a b = a

@@ -35,8 +35,8 @@ refused_from hours prices k [] = None
 refused_from hours prices k (r ∷ rs) =
     refused_at k (read_refusal hours k r.import r.export (prices k)) (refused_from hours prices (suc k) rs)
 
--- hours are missing at the list's end
-abbrev pub missing : ℕ → List Reading → Option BookFault
+-- hours are missing at the end of a list of a month with so many
+abbrev pub missing : {A : Type 0} → ℕ → List A → Option BookFault
 missing hours rs = cond (nat_lt (length rs) hours) (Some HoursMissing) None
 
 -- why a month has no sums: its opening is refused, or else its first refused reading, or else hours are missing

@@ -1,7 +1,7 @@
 // Sources of prices, in gr per MWh.
 ghost use Rattle.std.specs.Prelude.{◌≡◌, ℕ, List, ℤ, Ok, Err, Decides, Option};
-ghost use Rattle.std.specs.Option.{option_map};
-ghost use Rattle.hours.specs.Price.{AllPriced, Priced, Ranged, from_some, hour_gives, month_gives, or_else, unless_some};
+ghost use Rattle.std.specs.Option.{option_map, option_or};
+ghost use Rattle.hours.specs.Price.{AllPriced, Priced, Ranged, from_some, hour_gives, month_gives, unless_some};
 ghost use Rattle.std.proofs.Common.{rules};
 
 use faults::BookFault;
@@ -131,7 +131,7 @@ impl<U: PriceSource, L: PriceSource> PriceSource for StandIn<U, L> {
 
     ghost state = { λ x. (U.PriceSource.state x.upper, L.PriceSource.state x.lower) };
 
-    ghost gives = { λ s m p. or_else (U.PriceSource.gives s.0 m p) (L.PriceSource.gives s.1 m p) };
+    ghost gives = { λ s m p. option_or (U.PriceSource.gives s.0 m p) (L.PriceSource.gives s.1 m p) };
 
     ghost asked = { λ s m p. (U.PriceSource.asked s.0 m p, unless_some (U.PriceSource.gives s.0 m p) s.1 (L.PriceSource.asked s.1 m p)) };
 

@@ -1,8 +1,9 @@
 -- The sums of the input, and why it has none.
 use Rattle.std.specs.Prelude.{◌≡◌, ℕ, ◌<◌, ◌⊎◌, List, [], length, ℤ, pos, Some, None, vec_items, Option, slice_index_or}
+use Rattle.std.specs.Option.{option_or}
 use Rattle.faults.specs.declared.BookFault.TheVariants.{PriceOutOfRange}
 use Rattle.hours.specs.Marks.{each_zone}
-use Rattle.hours.specs.Price.{AllPriced, Priced, hour_gives, month_gives, or_else}
+use Rattle.hours.specs.Price.{AllPriced, Priced, hour_gives, month_gives}
 use Rattle.hours.specs.Whole.{MonthSummed, month_refusal}
 use Rattle.hours.specs.declared.sums.Totals.{Totals}
 use Rattle.hours.specs.declared.whole.MonthRefused.{MonthRefused}
@@ -12,7 +13,7 @@ use Rattle.month_sums.specs.declared.input.Input.{Input}
 
 -- the price at place p of month m: the hour's own, or else the month price
 abbrev pub price_of_hour : ℕ → List ℤ → ℤ → ℕ → Option ℤ
-price_of_hour m hourly monthly p = or_else (hour_gives m hourly m p) (month_gives m monthly m p)
+price_of_hour m hourly monthly p = option_or (hour_gives m hourly m p) (month_gives m monthly m p)
 
 -- the price at each place of the input's month
 abbrev pub prices_in : Input → ℕ → Option ℤ
