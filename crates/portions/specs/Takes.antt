@@ -1,85 +1,69 @@
 -- What the draw rules take: their laws, and the passes that compute them.
-use Rattle.std.specs.Prelude.{◌≡◌, ℕ, zero, suc, ◌+◌, ◌-◌, ◌*◌, ◌/◌, ◌<◌, ◌≤◌, min, max, cond, List, [], ◌∷◌, ◌++◌, length, drop, nat_lt, slice_index, slice_index_or, refl}
-use Rattle.std.proofs.Common.{sym, ap, ◌∙◌, arith, add-zero, mul-add, mul-zero, zero-add, mul-le-mul_right, lt-ltb, ⊎_elim}
+use Rattle.std.specs.Prelude.{◌≡◌, ℕ, zero, suc, ◌+◌, ◌-◌, ◌*◌, ◌/◌, ◌<◌, ◌≤◌, min, max, List, [], ◌∷◌, ◌++◌, length, drop, slice_index, refl}
+use Rattle.std.proofs.Common.{ap, ◌∙◌, arith, add-zero, mul-add, mul-zero, zero-add, mul-le-mul_right, ⊎_elim}
 use Rattle.std.proofs.Math.Nat.{add-mul-div_left, mul-div_left, zero-div}
 use Rattle.std.proofs.lemmas.Nat.{le-div, div-add-mod'}
 use Rattle.portions.specs.Sums.{sum}
-use Rattle.std.proofs.lemmas.List.{append_assoc, append-nil, drop_more, drop_all, length_push, length-take}
+use Rattle.std.proofs.lemmas.List.{length-take}
 use Rattle.portions.specs.Totals.{total_cons}
-use Rattle.std.proofs.lemmas.Bool.{cond-true, cases_lt}
+use Rattle.std.proofs.lemmas.Bool.{cases_lt}
 use Rattle.portions.specs.declared.amounts.Amounts.{Amounts}
 use Rattle.portions.specs.Listed.{listed}
 use Rattle.portions.specs.Taking.{oldest, shares, proportional}
 
+-- oldest first gives one taking for each amount
 pub oldest_length : (ls : List ℕ) (w : ℕ) → length (oldest ls w) ≡ length ls
 oldest_length [] w = refl
 oldest_length (a ∷ ls) w = ap suc (oldest_length ls (w - a))
 
+-- none above its amount
 pub oldest_bounded : (ls : List ℕ) (w i : ℕ) → slice_index (oldest ls w) i ≤ slice_index ls i
 oldest_bounded [] w i = omega arith
 oldest_bounded (a ∷ ls) w zero = omega arith
 oldest_bounded (a ∷ ls) w (suc i) = oldest_bounded ls (w - a) i
 
+-- and together the smaller of wanted and the total
 pub oldest_sum : (ls : List ℕ) (w : ℕ) → sum (oldest ls w) ≡ min w (sum ls)
 oldest_sum [] w = omega arith
 oldest_sum (a ∷ ls) w =
     let r = oldest_sum ls (w - a) in
     omega (arith, r, total_cons (λ x. x) a ls, total_cons (λ x. x) (min w a) (oldest ls (w - a)))
 
--- One more of at most 16.
-pub pushed : (all all' : List ℕ) (i x : ℕ) → length all ≡ i → i < 16 → all' ≡ cond (nat_lt (length all) 16) (all ++ x ∷ []) all → all' ≡ all ++ x ∷ []
-pushed all all' i x n lt e = e ∙ cond-true _ (all ++ x ∷ []) all (lt-ltb (length all) 16 (omega arith))
-
--- A pass over the amounts, with `rest` still wanted at the place i.
+-- a pass over the amounts, with `rest` still wanted at the place i
 pub record Serving (ls all : List ℕ) (w i rest : ℕ) : Type 0 where
   pub so_far : all ++ oldest (drop i ls) rest ≡ oldest ls w
   pub long : length all ≡ i
 
-pub serving_none : {ls all : List ℕ} {w : ℕ} → all ≡ [] → Serving ls all w 0 w
-serving_none {ls} {all} {w} e = record { so_far = ap (λ zs. zs ++ oldest ls w) e; long = ap length e }
-
-pub serving_more : {ls all all' : List ℕ} {w i rest rest' x : ℕ} → Serving ls all w i rest → i < length ls → length ls ≤ 16 → x ≡ min rest (slice_index ls i) →
-    all' ≡ cond (nat_lt (length all) 16) (all ++ x ∷ []) all → rest' ≡ rest - x → Serving ls all' w (i + 1) rest'
-serving_more {ls} {all} {all'} {w} {i} {rest} {rest'} {x} s lt few v e d =
-    let p = pushed all all' i x s.long (omega arith) e in
-    let q : rest' ≡ rest - slice_index_or ls i 0 = omega arith in
-    let m = ap (λ zs. oldest zs rest) (drop_more ls i 0 lt) in
-    record {
-      so_far =
-          ap (λ zs. zs ++ oldest (drop (i + 1) ls) rest') p ∙ append_assoc all (x ∷ []) (oldest (drop (i + 1) ls) rest') ∙
-          ap (λ n. all ++ x ∷ oldest (drop (i + 1) ls) n) q ∙ ap (λ n. all ++ n ∷ oldest (drop (i + 1) ls) (rest - slice_index ls i)) v ∙ ap (λ zs. all ++ zs) (sym m) ∙ s.so_far;
-      long = ap length p ∙ length_push all x ∙ ap (λ n. n + 1) s.long;
-    }
-
-pub serving_all : {ls all : List ℕ} {w i rest : ℕ} → Serving ls all w i rest → length ls ≤ i → all ≡ oldest ls w
-serving_all {ls} {all} {w} {i} {rest} s le =
-    sym (append-nil all) ∙ ap (λ zs. all ++ oldest zs rest) (sym (drop_all i ls le)) ∙ s.so_far
-
+-- there are at most 16 amounts
 pub listed_few : (a : Amounts) → length (listed a) ≤ 16
 listed_few a = omega (arith, length-take a.len a.rows, a.few)
 
+-- of a larger number the quotient is not smaller
 div_mono : (m n t : ℕ) → 0 < t → m ≤ n → m / t ≤ n / t
 div_mono m n t p h = le-div (m / t) n t p (omega (arith, div-add-mod' m t))
 
--- A share grows by at most the amount that is added.
+-- a share grows by at most the amount that is added
 pub share_more : (w t b a : ℕ) → w ≤ t → 0 < t → w * (b + a) / t ≤ w * b / t + a
 share_more w t b a h p =
     let k : w * (b + a) ≤ w * b + t * a = omega (arith, mul-add w b a, mul-le-mul_right a h) in
     omega (arith, div_mono (w * (b + a)) (w * b + t * a) t p k, add-mul-div_left (w * b) a p)
 
+-- and is not smaller
 pub share_mono : (w t b a : ℕ) → 0 < t → w * b / t ≤ w * (b + a) / t
 share_mono w t b a p = div_mono (w * b) (w * (b + a)) t p (omega (arith, mul-add w b a))
 
+-- one share for each amount
 pub shares_length : (w t b : ℕ) (ls : List ℕ) → length (shares w t b ls) ≡ length ls
 shares_length w t b [] = refl
 shares_length w t b (a ∷ ls) = ap suc (shares_length w t (b + a) ls)
 
+-- none above its amount
 pub shares_bounded : (w t b : ℕ) (ls : List ℕ) (i : ℕ) → w ≤ t → 0 < t → slice_index (shares w t b ls) i ≤ slice_index ls i
 shares_bounded w t b [] i h p = omega arith
 shares_bounded w t b (a ∷ ls) zero h p = omega (arith, share_more w t b a h p)
 shares_bounded w t b (a ∷ ls) (suc i) h p = shares_bounded w t (b + a) ls i h p
 
--- The shares telescope.
+-- the shares telescope
 pub shares_sum : (w t b : ℕ) (ls : List ℕ) → 0 < t → w * b / t + sum (shares w t b ls) ≡ w * (b + sum ls) / t
 shares_sum w t b [] p = omega (arith, ap (λ n. w * n / t) (add-zero b))
 shares_sum w t b (a ∷ ls) p =
@@ -88,9 +72,11 @@ shares_sum w t b (a ∷ ls) p =
     let e : b + a + sum ls ≡ b + sum (a ∷ ls) = omega (arith, c) in
     omega (arith, r, share_mono w t b a p, ap (λ n. w * n / t) e, total_cons (λ x. x) (w * (b + a) / t - w * b / t) (shares w t (b + a) ls))
 
+-- proportional takings are none above their amount
 pub proportional_bounded : (ls : List ℕ) (w i : ℕ) → slice_index (proportional ls w) i ≤ slice_index ls i
 proportional_bounded ls w i = shares_bounded (min w (sum ls)) (max 1 (sum ls)) 0 ls i (omega arith) (omega arith)
 
+-- and together the smaller of wanted and the total
 pub proportional_sum : (ls : List ℕ) (w : ℕ) → sum (proportional ls w) ≡ min w (sum ls)
 proportional_sum ls w =
     let t = sum ls in
@@ -109,33 +95,8 @@ proportional_sum ls w =
     omega (arith, r, z, u, v, m))
     (cases_lt 0 t)
 
--- A pass over the amounts, with `before` the sum of the first i.
+-- a pass over the amounts, with `before` the sum of the first i
 pub record Sharing (ls all : List ℕ) (w t i before : ℕ) : Type 0 where
   pub so_far : all ++ shares w t before (drop i ls) ≡ shares w t 0 ls
   pub long : length all ≡ i
   pub passed : before + sum (drop i ls) ≡ sum ls
-
-pub sharing_none : {ls all : List ℕ} {w t : ℕ} → all ≡ [] → Sharing ls all w t 0 0
-sharing_none {ls} {all} {w} {t} e = record { so_far = ap (λ zs. zs ++ shares w t 0 ls) e; long = ap length e; passed = zero-add (sum ls) }
-
-pub sharing_more : {ls all all' : List ℕ} {w t i before before' x : ℕ} → Sharing ls all w t i before → i < length ls → length ls ≤ 16 → before' ≡ before + slice_index ls i →
-    x ≡ w * before' / t - w * before / t → all' ≡ cond (nat_lt (length all) 16) (all ++ x ∷ []) all → Sharing ls all' w t (i + 1) before'
-sharing_more {ls} {all} {all'} {w} {t} {i} {before} {before'} {x} s lt few b v e =
-    let p = pushed all all' i x s.long (omega arith) e in
-    let m = ap (λ zs. shares w t before zs) (drop_more ls i 0 lt) in
-    let v' = v ∙ ap (λ n. w * n / t - w * before / t) b in
-    record {
-      so_far =
-          ap (λ zs. zs ++ shares w t before' (drop (i + 1) ls)) p ∙ append_assoc all (x ∷ []) (shares w t before' (drop (i + 1) ls)) ∙
-          ap (λ n. all ++ x ∷ shares w t n (drop (i + 1) ls)) b ∙ ap (λ n. all ++ n ∷ shares w t (before + slice_index ls i) (drop (i + 1) ls)) v' ∙ ap (λ zs. all ++ zs) (sym m) ∙ s.so_far;
-      long = ap length p ∙ length_push all x ∙ ap (λ n. n + 1) s.long;
-      passed = omega (arith, s.passed, b, ap sum (drop_more ls i 0 lt), total_cons (λ y. y) (slice_index ls i) (drop (i + 1) ls));
-    }
-
-pub sharing_all : {ls all : List ℕ} {w t i before : ℕ} → Sharing ls all w t i before → length ls ≤ i → all ≡ shares w t 0 ls
-sharing_all {ls} {all} {w} {t} {i} {before} s le =
-    sym (append-nil all) ∙ ap (λ zs. all ++ shares w t before zs) (sym (drop_all i ls le)) ∙ s.so_far
-
-pub sharing_room : {ls all : List ℕ} {w t i before : ℕ} → Sharing ls all w t i before → i < length ls → before + slice_index ls i ≤ sum ls
-sharing_room {ls} {all} {w} {t} {i} {before} s lt =
-    omega (arith, s.passed, ap sum (drop_more ls i 0 lt), total_cons (λ y. y) (slice_index ls i) (drop (i + 1) ls))
