@@ -9,9 +9,10 @@ use Rattle.portions.specs.Totals.{total-++, total_parts}
 use Rattle.ledger.specs.Kinds.{Kind, LawfulKind}
 use Rattle.ledger.specs.Rules.{Rule}
 use Rattle.ledger.specs.Ledger.{Ledger, left_in, lefts}
-use Rattle.ledger.specs.Steps.{taking, stays_in}
-use Rattle.ledger.specs.History.{History, Had, reached}
-use Rattle.ledger.specs.History.Event.{entered, drew, turned, refused}
+use Rattle.ledger.specs.Calls.Call.{open_for, enter, draw, turn}
+use Rattle.ledger.specs.Steps.{machine, taking, stays_in}
+use Rattle.histories.proofs.Runs.{Leads, holds}
+use Rattle.ledger.specs.History.{History, Had, reached, entered, drew, turned}
 use Rattle.ledger.specs.Totals.{Entered, Used, received}
 use Rattle.ledger.specs.Told.{RisingFrom}
 use Rattle.ledger.specs.Ways.{Way, over_months, taken, way_used, FairDraw, Fair, remains, way_run_out, way_left_from}
@@ -118,52 +119,48 @@ module _ {T : Type 0} (kind : Kind T) (m₀ : ℕ) (way : Way) where
       sum_le 1200 (λ k. cond (leb m k && leb (reached m₀ h + 1) (k + kind.life)) (remains m₀ way h k) 0)
       (λ k. cond (leb (max m (reached m₀ h + 1 - kind.life)) k && leb (reached m₀ h) (k + kind.life)) (remains m₀ way h k) 0) (λ k. grind (arith, nat_tests))
 
-  younger : (h : History T) (s : Ledger T) → Had kind m₀ h s → WentOldestFirst kind m₀ h → Fair kind m₀ way h →
-      (m : ℕ) → way_used way h + way_left_from kind m₀ way h m ≤ Used h + left_from m s.portions
-  younger [] s had went fair m = omega (arith, way_left_none m)
-  younger (entered amount terms ∷ h) s had went fair m =
-      let was = had.0 in
-      let ih = younger h was had.1 went fair m in
-      let ok = sound kind m₀ h was had.1 in
+  -- what the way has used and has left from month m on is no more than the store's
+  abbrev Behind : History T → Ledger T → Type 0
+  Behind h s = WentOldestFirst kind m₀ h → Fair kind m₀ way h → (m : ℕ) → way_used way h + way_left_from kind m₀ way h m ≤ Used h + left_from m s.portions
+
+  behind : Leads (machine kind) m₀ Behind
+  behind (open_for slots month) _ h s a went fair m = absurd a.follows
+  behind (enter amount terms) _ h s a went fair m =
+      let ok = sound kind m₀ h s a.had in
       let way_more = way_left_entered m amount terms h (omega (arith, ok.month_is, ok.month_le)) in
-      let more = total-++ (λ (p : Portion T). cond (leb m p.month) p.left 0) was.portions (fresh was.month amount terms ∷ []) in
+      let more = total-++ (λ (p : Portion T). cond (leb m p.month) p.left 0) s.portions (fresh s.month amount terms ∷ []) in
       let same = ap (λ (n : ℕ). cond (leb m n) amount 0) ok.month_is in
-      subst (λ (x : Ledger T). way_used way h + way_left_from kind m₀ way (entered amount terms ∷ h) m ≤ Used h + left_from m x.portions) (sym had.2.1)
-      (omega (arith, ih, way_more, more, same))
-  younger (drew rule wanted answer ∷ h) s had went fair m =
-      let was = had.0 in
-      let ih = younger h was had.1 went.1 fair.1 in
-      let ok = sound kind m₀ h was had.1 in
-      let gave = went.0 was had.1 in
-      let took = had.2.1 ∙ had.2.3.full was.month wanted (lefts was) in
-      let goal : List ℕ → Type 0 = λ xs. way_used way (drew rule wanted answer ∷ h) + way_left_drew rule wanted answer h m ≤ Used h + answer + left_from m (taking xs was.portions) in
-      subst (λ (x : Ledger T). way_used way (drew rule wanted answer ∷ h) + way_left_drew rule wanted answer h m ≤ Used h + answer + left_from m x.portions) (sym had.2.2)
-      (subst goal (sym gave)
+      omega (arith, a.so went fair m, way_more, more, same)
+  behind (draw rule wanted) answer h s a went fair m =
+      let ih = a.so went.1 fair.1 in
+      let ok = sound kind m₀ h s a.had in
+      let gave = went.0 s a.had in
+      let took = a.told ∙ a.follows.full s.month wanted (lefts s) in
+      let goal : List ℕ → Type 0 = λ xs. way_used way (drew rule wanted answer ∷ h) + way_left_drew rule wanted answer h m ≤ Used h + answer + left_from m (taking xs s.portions) in
+      subst goal (sym gave)
       (omega (
         arith,
         ih m,
         ih 0,
         took,
-        sum_lefts was.portions,
-        below_and_from m was.portions,
-        below_and_from 0 was.portions,
-        oldest_from m 0 wanted was.portions ok.rising,
+        sum_lefts s.portions,
+        below_and_from m s.portions,
+        below_and_from 0 s.portions,
+        oldest_from m 0 wanted s.portions ok.rising,
         drew_less rule wanted answer h m,
         drew_from rule wanted answer h m,
         drew_all rule wanted answer h fair.0,
         fair.0.at_most_wanted,
-      )))
-  younger (turned refunded lost ∷ h) s had went fair m =
-      let was = had.0 in
-      let ok = sound kind m₀ h was had.1 in
+      ))
+  behind turn answer h s a went fair m =
+      let ok = sound kind m₀ h s a.had in
       let n : ℕ = max m (reached m₀ h + 1 - kind.life) in
-      let ih = younger h was had.1 went fair n in
-      let kept = kept_from kind.life m (was.month + 1) was.portions in
-      let same = ap (λ (j : ℕ). left_from (max m (j + 1 - kind.life)) was.portions) ok.month_is in
-      subst (λ (x : Ledger T). way_used way h + way_left_from kind m₀ way (turned refunded lost ∷ h) m ≤ Used h + left_from m x.portions) (sym had.2.3)
-      (omega (arith, ih, kept, same, way_left_turned m refunded lost h))
-  younger (refused call fault ∷ h) s had went fair m =
-      subst (λ (x : Ledger T). way_used way h + way_left_from kind m₀ way h m ≤ Used h + left_from m x.portions) (sym had.2.1) (younger h had.0 had.1 went fair m)
+      let kept = kept_from kind.life m (s.month + 1) s.portions in
+      let same = ap (λ (j : ℕ). left_from (max m (j + 1 - kind.life)) s.portions) ok.month_is in
+      omega (arith, a.so went fair n, kept, same, way_left_turned m answer.0 answer.1 h)
+
+  younger : (h : History T) (s : Ledger T) → Had kind m₀ h s → Behind h s
+  younger = holds (machine kind) m₀ Behind (λ opens went fair m. omega (arith, way_left_none m)) behind (λ call fault h s so. so)
 
   way_balance : (h : History T) (s : Ledger T) → Had kind m₀ h s → Entered h ≤ way_used way h + way_run_out kind m₀ way h + way_left_from kind m₀ way h 0
   way_balance h s had =

@@ -5,6 +5,5 @@ mod Sums
 mod Best
 mod Own
 mod Refusals
-mod Runs
 pub mod Promise
 pub mod Keeps

@@ -1,5 +1,5 @@
 -- The store's own service is a fair way.
-use Rattle.std.proofs.Common.{◌≡◌, ℕ, ◌+◌, ◌-◌, ◌<◌, ◌≤◌, Bool, true, false, cond, ◌&&◌, eqb, ltb, leb, List, [], ◌∷◌, length, filter, sym, refl, ap, ◌∙◌, subst, inl, inr, arith}
+use Rattle.std.proofs.Common.{◌≡◌, ℕ, ◌+◌, ◌-◌, ◌<◌, ◌≤◌, Bool, true, false, cond, ◌&&◌, eqb, ltb, leb, List, [], ◌∷◌, length, filter, refl, ap, ◌∙◌, inl, inr, arith}
 use Rattle.std.proofs.lemmas.Bool.{eqb-true}
 use Rattle.std.proofs.lemmas.Bool.Decides.{nat_tests}
 use Rattle.portions.specs.Sums.{total, sum}
@@ -8,14 +8,14 @@ use Rattle.portions.specs.Totals.{total-++}
 use Rattle.ledger.specs.Kinds.{Kind, LawfulKind}
 use Rattle.ledger.specs.Rules.{Rule, LawfulRule}
 use Rattle.ledger.specs.Ledger.{Ledger, left_in, lefts}
-use Rattle.ledger.specs.Steps.{taking, takings, stays_in}
-use Rattle.ledger.specs.History.{History, Had, reached}
-use Rattle.ledger.specs.History.Event.{entered, drew, turned, refused}
+use Rattle.ledger.specs.Calls.Call.{open_for, enter, draw, turn}
+use Rattle.ledger.specs.Steps.{machine, taking, takings, stays_in}
+use Rattle.ledger.specs.History.{History, Had, reached, entered, drew}
 use Rattle.ledger.specs.Totals.{Entered, Used, Refunded, Lost, received}
 use Rattle.ledger.specs.Told.{Tells}
 use Rattle.ledger.specs.Ways.{Way, over_months, taken, way_used, Fair, remains, way_run_out, way_left_from}
 use Rattle.ledger.specs.Service.{taken_from, Own, left_from, ServesFairly}
-use Rattle.ledger.proofs.Runs.{history_decides}
+use Rattle.histories.proofs.Runs.{history_decides, Leads, holds}
 use Rattle.ledger.proofs.Lists.{Within, within, amounts_left_in, UpTo, stays_le, stays_gt}
 use Rattle.ledger.proofs.Store.{counts, sound, exact}
 use Rattle.ledger.proofs.Sums.{sum_zero, sum_same, sum-+, sum_one}
@@ -81,24 +81,19 @@ module _ {T : Type 0} where
 -- what a way took from the portions of all months is what it used
 pub taken_sum : {T : Type 0} (way : Way) (h : History T) → over_months (taken way h) ≡ way_used way h
 taken_sum way [] = sum_zero 1200
-taken_sum way (entered amount terms ∷ h) = taken_sum way h
 taken_sum way (drew rule wanted answer ∷ h) = omega (arith, taken_sum way h, sum-+ 1200 (taken way h) (way (length h)))
-taken_sum way (turned refunded lost ∷ h) = taken_sum way h
-taken_sum way (refused call fault ∷ h) = taken_sum way h
+taken_sum way (_ ∷ h) = taken_sum way h
 
 module _ {T : Type 0} (kind : Kind T) (m₀ : ℕ) where
   -- a way is the store's own if it agrees with one at the places of the history
   own_like : (v w : Way) (h : History T) → ((n : ℕ) → n < length h → (k : ℕ) → w n k ≡ v n k) → Own kind m₀ v h → Own kind m₀ w h
   own_like v w [] same own = tt
-  own_like v w (entered amount terms ∷ h) same own = own_like v w h (λ n lt k. same n (omega (arith, lt)) k) own
   own_like v w (drew rule wanted answer ∷ h) same own =
       ((λ s had k. same (length h) (omega arith) k ∙ own.0 s had k), own_like v w h (λ n lt k. same n (omega (arith, lt)) k) own.1)
-  own_like v w (turned refunded lost ∷ h) same own = own_like v w h (λ n lt k. same n (omega (arith, lt)) k) own
-  own_like v w (refused call fault ∷ h) same own = own_like v w h (λ n lt k. same n (omega (arith, lt)) k) own
+  own_like v w (_ ∷ h) same own = own_like v w h (λ n lt k. same n (omega (arith, lt)) k) own
 
   pub own_exists : (h : History T) (s : Ledger T) → Had kind m₀ h s → (way : Way) × Own kind m₀ way h
   own_exists [] s had = ((λ n k. 0), tt)
-  own_exists (entered amount terms ∷ h) s had = own_exists h had.0 had.1
   own_exists (drew rule wanted answer ∷ h) s had =
       let ih = own_exists h had.0 had.1 in
       let was = had.0 in
@@ -108,12 +103,11 @@ module _ {T : Type 0} (kind : Kind T) (m₀ : ℕ) where
         (
           (λ s' had' k.
               let at : cond (eqb (length h) (length h)) (here k) (ih.0 (length h) k) ≡ here k = grind (arith, nat_tests) in
-              at ∙ ap (λ (x : Ledger T). taken_from k (takings rule wanted x) x.portions) (history_decides kind m₀ h was s' had.1 had')),
+              at ∙ ap (λ (x : Ledger T). taken_from k (takings rule wanted x) x.portions) (history_decides (machine kind) m₀ h was s' had.1 had')),
           own_like ih.0 way h (λ n lt k. let z : ℕ = here k in let old : cond (eqb n (length h)) z (ih.0 n k) ≡ ih.0 n k = grind (arith, nat_tests) in old) ih.1,
         ),
       )
-  own_exists (turned refunded lost ∷ h) s had = own_exists h had.0 had.1
-  own_exists (refused call fault ∷ h) s had = own_exists h had.0 had.1
+  own_exists (_ ∷ h) s had = own_exists h had.0 had.1
 
   -- what the portions of all months received is what was entered
   pub received_sum : (h : History T) (s : Ledger T) → Had kind m₀ h s → over_months (received m₀ h) ≡ Entered h
@@ -123,9 +117,7 @@ module _ {T : Type 0} (kind : Kind T) (m₀ : ℕ) where
       let one = sum_one 1200 (reached m₀ h) amount (omega (arith, ok.month_is, ok.month_le)) in
       let both = sum-+ 1200 (received m₀ h) (λ k. cond (eqb (reached m₀ h) k) amount 0) in
       omega (arith, received_sum h had.0 had.1, one, both)
-  received_sum (drew rule wanted answer ∷ h) s had = received_sum h had.0 had.1
-  received_sum (turned refunded lost ∷ h) s had = received_sum h had.0 had.1
-  received_sum (refused call fault ∷ h) s had = received_sum h had.0 had.1
+  received_sum (_ ∷ h) s had = received_sum h had.0 had.1
 
   module _ (way : Way) where
     -- what the way leaves of an open portion is what the store tells as left
@@ -133,38 +125,34 @@ module _ {T : Type 0} (kind : Kind T) (m₀ : ℕ) where
       pub in_all : taken way h k ≤ received m₀ h k
       pub open_left : cond (leb (reached m₀ h) (k + kind.life)) (remains m₀ way h k) 0 ≡ left_at k s.portions
 
+    leaves_lead : (k : ℕ) → Leads (machine kind) m₀ (λ h s. Own kind m₀ way h → Leaves h s k)
+    leaves_lead k (open_for slots month) _ h s a own = absurd a.follows
+    leaves_lead k (enter amount terms) _ h s a own =
+        let ih = a.so own in
+        let le = ih.in_all in
+        let eq = ih.open_left in
+        let at = (sound kind m₀ h s a.had).month_is in
+        let more = total-++ (λ (p : Portion T). cond (eqb p.month k) p.left 0) s.portions (fresh s.month amount terms ∷ []) in
+        record { in_all = omega (arith, le); open_left = grind (arith, nat_tests) }
+    leaves_lead k (draw rule wanted) _ h s a own =
+        let ih = a.so own.1 in
+        let le = ih.in_all in
+        let eq = ih.open_left in
+        let gave = own.0 s a.had k in
+        let less = left_at_taking k (takings rule wanted s) s.portions (within a.follows s.month (lefts s) wanted) in
+        record { in_all = grind (arith, nat_tests); open_left = grind (arith, nat_tests) }
+    leaves_lead k turn _ h s a own =
+        let ih = a.so own in
+        let le = ih.in_all in
+        let eq = ih.open_left in
+        let at = (sound kind m₀ h s a.had).month_is in
+        let kept = left_at_kept kind.life k (s.month + 1) s.portions in
+        record { in_all = le; open_left = grind (arith, nat_tests) }
+
     leaves : (h : History T) (s : Ledger T) → Had kind m₀ h s → Own kind m₀ way h → (k : ℕ) → Leaves h s k
-    leaves [] s had own k = subst (λ x. Leaves [] x k) (sym had.2) (record { in_all = omega arith; open_left = grind (arith, nat_tests) })
-    leaves (entered amount terms ∷ h) s had own k =
-        let was = had.0 in
-        let ih = leaves h was had.1 own k in
-        let le = ih.in_all in
-        let eq = ih.open_left in
-        let at = (sound kind m₀ h was had.1).month_is in
-        let more = total-++ (λ (p : Portion T). cond (eqb p.month k) p.left 0) was.portions (fresh was.month amount terms ∷ []) in
-        subst (λ x. Leaves (entered amount terms ∷ h) x k) (sym had.2.1)
-        (record { in_all = omega (arith, le); open_left = grind (arith, nat_tests) })
-    leaves (drew rule wanted answer ∷ h) s had own k =
-        let was = had.0 in
-        let ih = leaves h was had.1 own.1 k in
-        let le = ih.in_all in
-        let eq = ih.open_left in
-        let gave = own.0 was had.1 k in
-        let less = left_at_taking k (takings rule wanted was) was.portions (within had.2.3 was.month (lefts was) wanted) in
-        subst (λ x. Leaves (drew rule wanted answer ∷ h) x k) (sym had.2.2)
-        (record { in_all = grind (arith, nat_tests); open_left = grind (arith, nat_tests) })
-    leaves (turned refunded lost ∷ h) s had own k =
-        let was = had.0 in
-        let ih = leaves h was had.1 own k in
-        let le = ih.in_all in
-        let eq = ih.open_left in
-        let at = (sound kind m₀ h was had.1).month_is in
-        let kept = left_at_kept kind.life k (was.month + 1) was.portions in
-        subst (λ x. Leaves (turned refunded lost ∷ h) x k) (sym had.2.3)
-        (record { in_all = le; open_left = grind (arith, nat_tests) })
-    leaves (refused call fault ∷ h) s had own k =
-        let ih = leaves h had.0 had.1 own k in
-        subst (λ x. Leaves (refused call fault ∷ h) x k) (sym had.2.1) (record { in_all = ih.in_all; open_left = ih.open_left })
+    leaves h s had own k =
+        holds (machine kind) m₀ (λ h s. Own kind m₀ way h → Leaves h s k) (λ opens own. record { in_all = omega arith; open_left = grind (arith, nat_tests) })
+        (leaves_lead k) (λ call fault h s so own. let was = so own in assumption) h s had own
 
     own_draw : (rule : Rule) → LawfulRule rule → (wanted : ℕ) (h : History T) (s : Ledger T) → Had kind m₀ h s → Own kind m₀ way h →
         ((k : ℕ) → way (length h) k ≡ taken_from k (takings rule wanted s) s.portions) → over_months (way (length h)) ≡ sum (takings rule wanted s)
@@ -175,7 +163,6 @@ module _ {T : Type 0} (kind : Kind T) (m₀ : ℕ) where
 
     own_fair : (h : History T) (s : Ledger T) → Had kind m₀ h s → Own kind m₀ way h → Fair kind m₀ way h
     own_fair [] s had own = tt
-    own_fair (entered amount terms ∷ h) s had own = own_fair h had.0 had.1 own
     own_fair (drew rule wanted answer ∷ h) s had own =
         let was = had.0 in
         let gave = own.0 was had.1 in (
@@ -189,16 +176,13 @@ module _ {T : Type 0} (kind : Kind T) (m₀ : ℕ) where
           },
           own_fair h was had.1 own.1,
         )
-    own_fair (turned refunded lost ∷ h) s had own = own_fair h had.0 had.1 own
-    own_fair (refused call fault ∷ h) s had own = own_fair h had.0 had.1 own
+    own_fair (_ ∷ h) s had own = own_fair h had.0 had.1 own
 
     own_used : (h : History T) (s : Ledger T) → Had kind m₀ h s → Own kind m₀ way h → way_used way h ≡ Used h
     own_used [] s had own = refl
-    own_used (entered amount terms ∷ h) s had own = own_used h had.0 had.1 own
     own_used (drew rule wanted answer ∷ h) s had own =
         omega (arith, own_used h had.0 had.1 own.1, own_draw rule had.2.3 wanted h had.0 had.1 own.1 (own.0 had.0 had.1), had.2.1)
-    own_used (turned refunded lost ∷ h) s had own = own_used h had.0 had.1 own
-    own_used (refused call fault ∷ h) s had own = own_used h had.0 had.1 own
+    own_used (_ ∷ h) s had own = own_used h had.0 had.1 own
 
     own_left : (h : History T) (s : Ledger T) → Had kind m₀ h s → Own kind m₀ way h → (m : ℕ) → way_left_from kind m₀ way h m ≡ left_from m s.portions
     own_left h s had own m =

@@ -8,8 +8,10 @@ use Rattle.ledger.specs.Kinds.{Kind}
 use Rattle.ledger.specs.Ledger.{Ledger, has}
 use Rattle.ledger.specs.Calls.{asks}
 use Rattle.ledger.specs.Calls.Call.{open_for, enter, draw, turn}
-use Rattle.ledger.specs.History.{Event, History, Had, reached}
-use Rattle.ledger.specs.History.Event.{entered, drew, turned, refused}
+use Rattle.histories.specs.Histories.Event.{did, refused}
+use Rattle.histories.proofs.Runs.{always}
+use Rattle.ledger.specs.Steps.{machine}
+use Rattle.ledger.specs.History.{Event, History, Had, reached, entered, drew, turned}
 use Rattle.ledger.specs.Told.{Tells}
 use Rattle.ledger.specs.Refusals.{HasPortion, Rightly, AllRightly}
 use Rattle.ledger.proofs.Asked.{failed, enter_met, draw_met, turn_met}
@@ -58,6 +60,7 @@ module _ {T : Type 0} where
   refuses_rightly kind m₀ h (drew rule wanted answer) s had = (draw_met wanted had.0 had.2.0).small
   refuses_rightly kind m₀ h (turned refunded lost) s had =
       omega (arith, (turn_met had.0 had.2.0).early, month_is kind m₀ h had.0 had.1)
+  refuses_rightly kind m₀ h (did (open_for slots month) _) s had = had.2.3
   refuses_rightly kind m₀ h (refused (open_for slots month) fault) s had =
       elim (failed (ltb kind.life slots) _ fault _ had.2.0) [
         | inl x ↦ inl (ap store_number x.0, ltb-false kind.life slots x.1)
@@ -87,5 +90,4 @@ module _ {T : Type 0} where
       [ inl x ↦ (ap store_number x.0, omega (arith, ltb-false had.0.month 1199 x.1, ok.month_is, ok.month_le)) | inr x ↦ absurd (cc) ]
 
   pub all_rightly : (kind : Kind T) (m₀ : ℕ) (h : History T) (s : Ledger T) → Had kind m₀ h s → AllRightly kind m₀ h
-  all_rightly kind m₀ [] s had = tt
-  all_rightly kind m₀ (e ∷ h) s had = (refuses_rightly kind m₀ h e s had, all_rightly kind m₀ h had.0 had.1)
+  all_rightly kind m₀ = always (machine kind) m₀ (Rightly kind m₀) (refuses_rightly kind m₀)

@@ -1,12 +1,13 @@
 -- What every store keeps from call to call: its totals, its balance, and which portions it tells.
-use Rattle.std.proofs.Common.{◌≡◌, ℕ, ◌+◌, ◌-◌, ◌≤◌, true, List, [], ◌∷◌, length, filter, sym, refl, ◌∙◌, subst, inl, inr, arith}
+use Rattle.std.proofs.Common.{◌≡◌, ℕ, ◌+◌, ◌-◌, ◌≤◌, true, List, [], ◌∷◌, length, filter, sym, refl, ap, ◌∙◌, inl, inr, arith}
 use Rattle.portions.specs.Portions.{Portion, fresh}
 use Rattle.portions.specs.Totals.{total-++, total_split, total_parts}
+use Rattle.histories.proofs.Runs.{Leads, holds}
 use Rattle.ledger.specs.Kinds.{Kind, LawfulKind, loss}
 use Rattle.ledger.specs.Ledger.{Ledger, left_in, lefts}
-use Rattle.ledger.specs.Steps.{takings, ends_by, stays_in, ending, refunds, losses, turning}
+use Rattle.ledger.specs.Calls.Call.{open_for, enter, draw, turn}
+use Rattle.ledger.specs.Steps.{machine, takings, ends_by, stays_in, ending, refunds, losses, turning}
 use Rattle.ledger.specs.History.{History, Had, reached}
-use Rattle.ledger.specs.History.Event.{entered, drew, turned, refused}
 use Rattle.ledger.specs.Totals.{Entered, Used, Refunded, Lost, Balanced}
 use Rattle.ledger.specs.Told.{WasEntered, Tells, RisingFrom, TellsExactly}
 use Rattle.ledger.proofs.Asked.{enter_met, turn_met}
@@ -27,29 +28,22 @@ module _ {T : Type 0} (kind : Kind T) (law : LawfulKind kind) (m₀ : ℕ) where
       let cut = total_split (λ (p : Portion T). p.left) (ends_by kind.life (s.month + 1)) s.portions in
       omega (arith, parts, cut)
 
+  counts_lead : Leads (machine kind) m₀ Counts
+  counts_lead (open_for slots month) _ h s a = absurd a.follows
+  counts_lead (enter amount terms) _ h s a =
+      let more = total-++ (λ (p : Portion T). p.left) s.portions (fresh s.month amount terms ∷ []) in
+      record { entered_is = omega arith; used_is = a.so.used_is; refunded_is = a.so.refunded_is; lost_is = a.so.lost_is; balance = omega (arith, more) }
+  counts_lead (draw rule wanted) answer h s a =
+      let less = left_taking (takings rule wanted s) s.portions (within a.follows s.month (lefts s) wanted) in
+      record { entered_is = a.so.entered_is; used_is = omega (arith, a.told); refunded_is = a.so.refunded_is; lost_is = a.so.lost_is; balance = omega (arith, less) }
+  counts_lead turn answer h s a =
+      let cut = split_left s in
+      let refunded = ap (λ (x : ℕ × ℕ). x.0) a.told in
+      let lost = ap (λ (x : ℕ × ℕ). x.1) a.told in
+      record { entered_is = a.so.entered_is; used_is = a.so.used_is; refunded_is = omega (arith, refunded); lost_is = omega (arith, lost); balance = omega (arith, cut) }
+
   pub counts : (h : History T) (s : Ledger T) → Had kind m₀ h s → Counts h s
-  counts [] s had = subst (Counts []) (sym had.2) (record { entered_is = refl; used_is = refl; refunded_is = refl; lost_is = refl; balance = refl })
-  counts (entered amount terms ∷ h) s had =
-      let was = had.0 in
-      let ih = counts h was had.1 in
-      let more = total-++ (λ (p : Portion T). p.left) was.portions (fresh was.month amount terms ∷ []) in
-      subst (Counts (entered amount terms ∷ h)) (sym had.2.1)
-      (record { entered_is = omega (arith, ih.entered_is); used_is = ih.used_is; refunded_is = ih.refunded_is; lost_is = ih.lost_is; balance = omega (arith, ih.balance, more) })
-  counts (drew rule wanted answer ∷ h) s had =
-      let was = had.0 in
-      let ih = counts h was had.1 in
-      let less = left_taking (takings rule wanted was) was.portions (within had.2.3 was.month (lefts was) wanted) in
-      subst (Counts (drew rule wanted answer ∷ h)) (sym had.2.2)
-      (record { entered_is = ih.entered_is; used_is = omega (arith, ih.used_is, had.2.1); refunded_is = ih.refunded_is; lost_is = ih.lost_is; balance = omega (arith, ih.balance, less) })
-  counts (turned refunded lost ∷ h) s had =
-      let was = had.0 in
-      let ih = counts h was had.1 in
-      let cut = split_left was in
-      subst (Counts (turned refunded lost ∷ h)) (sym had.2.3)
-      (record { entered_is = ih.entered_is; used_is = ih.used_is; refunded_is = omega (arith, ih.refunded_is, had.2.1); lost_is = omega (arith, ih.lost_is, had.2.2); balance = omega (arith, ih.balance, cut) })
-  counts (refused call fault ∷ h) s had =
-      let ih = counts h had.0 had.1 in
-      subst (Counts (refused call fault ∷ h)) (sym had.2.1) (record { entered_is = ih.entered_is; used_is = ih.used_is; refunded_is = ih.refunded_is; lost_is = ih.lost_is; balance = ih.balance })
+  counts = holds (machine kind) m₀ Counts (λ opens. record { entered_is = refl; used_is = refl; refunded_is = refl; lost_is = refl; balance = refl }) counts_lead (λ call fault h s so. assumption)
 
 module _ {T : Type 0} (kind : Kind T) (m₀ : ℕ) where
   -- the month told is the one reached, and the open portions stand in its order
@@ -60,66 +54,56 @@ module _ {T : Type 0} (kind : Kind T) (m₀ : ℕ) where
     pub rising : RisingFrom 0 s.portions
     pub up_to : UpTo s.month s.portions
 
+  sound_leads : Leads (machine kind) m₀ Sound
+  sound_leads (open_for slots month) _ h s a = absurd a.follows
+  sound_leads (enter amount terms) _ h s a =
+      let ih = a.so in
+      let none' = (enter_met amount s a.none).free in
+      record { is_open = refl; month_is = ih.month_is; month_le = ih.month_le; rising = rising_push (fresh s.month amount terms) 0 s.portions (omega arith) (before_none s.month s.portions ih.up_to none') ih.rising; up_to = upto_push s.month (fresh s.month amount terms) (omega arith) s.portions ih.up_to }
+  sound_leads (draw rule wanted) _ h s a =
+      let ih = a.so in
+      record { is_open = refl; month_is = ih.month_is; month_le = ih.month_le; rising = rising_taking 0 (takings rule wanted s) s.portions ih.rising; up_to = upto_taking s.month (takings rule wanted s) s.portions ih.up_to }
+  sound_leads turn _ h s a =
+      let ih = a.so in
+      let early = (turn_met s a.none).early in
+      record { is_open = refl; month_is = omega (arith, ih.month_is); month_le = omega (arith, early); rising = rising_kept 0 (stays_in kind.life (s.month + 1)) s.portions ih.rising; up_to = upto_more s.month (s.month + 1) (omega arith) (filter (stays_in kind.life (s.month + 1)) s.portions) (upto_kept s.month (stays_in kind.life (s.month + 1)) s.portions ih.up_to) }
+
   pub sound : (h : History T) (s : Ledger T) → Had kind m₀ h s → Sound h s
-  sound [] s had = subst (Sound []) (sym had.2) (record { is_open = refl; month_is = refl; month_le = had.1; rising = tt; up_to = tt })
-  sound (entered amount terms ∷ h) s had =
-      let was = had.0 in
-      let ih = sound h was had.1 in
-      let none' = (enter_met amount was had.2.0).free in
-      subst (Sound (entered amount terms ∷ h)) (sym had.2.1)
-      (record { is_open = refl; month_is = ih.month_is; month_le = ih.month_le; rising = rising_push (fresh was.month amount terms) 0 was.portions (omega arith) (before_none was.month was.portions ih.up_to none') ih.rising; up_to = upto_push was.month (fresh was.month amount terms) (omega arith) was.portions ih.up_to })
-  sound (drew rule wanted answer ∷ h) s had =
-      let was = had.0 in
-      let ih = sound h was had.1 in
-      subst (Sound (drew rule wanted answer ∷ h)) (sym had.2.2)
-      (record { is_open = refl; month_is = ih.month_is; month_le = ih.month_le; rising = rising_taking 0 (takings rule wanted was) was.portions ih.rising; up_to = upto_taking was.month (takings rule wanted was) was.portions ih.up_to })
-  sound (turned refunded lost ∷ h) s had =
-      let was = had.0 in
-      let ih = sound h was had.1 in
-      let early = (turn_met was had.2.0).early in
-      subst (Sound (turned refunded lost ∷ h)) (sym had.2.3)
-      (record { is_open = refl; month_is = omega (arith, ih.month_is); month_le = omega (arith, early); rising = rising_kept 0 (stays_in kind.life (was.month + 1)) was.portions ih.rising; up_to = upto_more was.month (was.month + 1) (omega arith) (filter (stays_in kind.life (was.month + 1)) was.portions) (upto_kept was.month (stays_in kind.life (was.month + 1)) was.portions ih.up_to) })
-  sound (refused call fault ∷ h) s had =
-      let ih = sound h had.0 had.1 in
-      subst (Sound (refused call fault ∷ h)) (sym had.2.1) (record { is_open = ih.is_open; month_is = ih.month_is; month_le = ih.month_le; rising = ih.rising; up_to = ih.up_to })
+  sound = holds (machine kind) m₀ Sound (λ opens. record { is_open = refl; month_is = refl; month_le = opens.1; rising = tt; up_to = tt }) sound_leads (λ call fault h s so. assumption)
 
   -- which portions are told, both ways
   pub record Exact (h : History T) (s : Ledger T) (k a : ℕ) (t : T) : Type 0 where
     pub only : Tells s.portions k a t → WasEntered m₀ h k a t × (reached m₀ h ≤ k + kind.life)
     pub all : WasEntered m₀ h k a t → reached m₀ h ≤ k + kind.life → Tells s.portions k a t
 
+  exact_leads : Leads (machine kind) m₀ (λ h s. (k a : ℕ) (t : T) → Exact h s k a t)
+  exact_leads (open_for slots month) _ h s x k a t = absurd x.follows
+  exact_leads (enter amount terms) _ h s x k a t =
+      let ih = x.so k a t in
+      let at = (sound h s x.had).month_is in
+      let new = fresh s.month amount terms in
+      record {
+        only = λ e. elim (tells_push_back k a t new s.portions e) [ inl y ↦ (inl (sym at ∙ y.0, y.1, y.2), omega (arith, at, y.0)) | inr y ↦ (inr (ih.only y).0, (ih.only y).1) ];
+        all = elim [ inl y ↦ (λ le. tells_push_new k a t new s.portions (at ∙ y.0, y.1, y.2)) | inr y ↦ (λ le. tells_push_old k a t new s.portions (ih.all y le)) ];
+      }
+  exact_leads (draw rule wanted) _ h s x k a t =
+      let ih = x.so k a t in
+      record {
+        only = λ e. ih.only (tells_taking_back k a t (takings rule wanted s) s.portions e);
+        all = λ e le. tells_taking k a t (takings rule wanted s) s.portions (ih.all e le);
+      }
+  exact_leads turn _ h s x k a t =
+      let ih = x.so k a t in
+      let at = (sound h s x.had).month_is in
+      record {
+        only = λ e. let back = tells_kept_back k a t kind.life (s.month + 1) s.portions e in ((ih.only back.0).0, omega (arith, at, back.1));
+        all = λ e le. tells_kept k a t kind.life (s.month + 1) (omega (arith, at, le)) s.portions (ih.all e (omega (arith, le)));
+      }
+
   pub exact : (h : History T) (s : Ledger T) → Had kind m₀ h s → (k a : ℕ) (t : T) → Exact h s k a t
-  exact [] s had k a t = subst (λ x. Exact [] x k a t) (sym had.2) (record { only = λ e. absurd e; all = λ e le. absurd e })
-  exact (entered amount terms ∷ h) s had k a t =
-      let was = had.0 in
-      let ih = exact h was had.1 k a t in
-      let at = (sound h was had.1).month_is in
-      let new = fresh was.month amount terms in
-      subst (λ x. Exact (entered amount terms ∷ h) x k a t) (sym had.2.1)
-      (record {
-        only = λ e. elim (tells_push_back k a t new was.portions e) [ inl x ↦ (inl (sym at ∙ x.0, x.1, x.2), omega (arith, at, x.0)) | inr x ↦ (inr (ih.only x).0, (ih.only x).1) ];
-        all = elim [ inl x ↦ (λ le. tells_push_new k a t new was.portions (at ∙ x.0, x.1, x.2)) | inr x ↦ (λ le. tells_push_old k a t new was.portions (ih.all x le)) ];
-      })
-  exact (drew rule wanted answer ∷ h) s had k a t =
-      let was = had.0 in
-      let ih = exact h was had.1 k a t in
-      subst (λ x. Exact (drew rule wanted answer ∷ h) x k a t) (sym had.2.2)
-      (record {
-        only = λ e. ih.only (tells_taking_back k a t (takings rule wanted was) was.portions e);
-        all = λ e le. tells_taking k a t (takings rule wanted was) was.portions (ih.all e le);
-      })
-  exact (turned refunded lost ∷ h) s had k a t =
-      let was = had.0 in
-      let ih = exact h was had.1 k a t in
-      let at = (sound h was had.1).month_is in
-      subst (λ x. Exact (turned refunded lost ∷ h) x k a t) (sym had.2.3)
-      (record {
-        only = λ e. let back = tells_kept_back k a t kind.life (was.month + 1) was.portions e in ((ih.only back.0).0, omega (arith, at, back.1));
-        all = λ e le. tells_kept k a t kind.life (was.month + 1) (omega (arith, at, le)) was.portions (ih.all e (omega (arith, le)));
-      })
-  exact (refused call fault ∷ h) s had k a t =
-      let ih = exact h had.0 had.1 k a t in
-      subst (λ x. Exact (refused call fault ∷ h) x k a t) (sym had.2.1) (record { only = ih.only; all = ih.all })
+  exact =
+      holds (machine kind) m₀ (λ h s. (k a : ℕ) (t : T) → Exact h s k a t) (λ opens k a t. record { only = λ e. absurd e; all = λ e le. absurd e })
+      exact_leads (λ call fault h s so k a t. let was = so k a t in assumption)
 
   pub tells_open : (h : History T) (s : Ledger T) → Had kind m₀ h s → TellsExactly kind m₀ h s
   tells_open h s had =

@@ -1,9 +1,10 @@
--- The calls on a store, and by which fault each is refused.
-use Rattle.std.specs.Prelude.{ℕ, Bool, cond, not, Some, None, Ok, Err, Option, Result, nat_le, nat_lt}
+-- The calls on a store, what each answers, and by which fault it is refused.
+use Rattle.std.specs.Prelude.{ℕ, not, None, Option, nat_le, nat_lt}
 use Rattle.faults.specs.declared.StoreFault.{StoreFault}
 use Rattle.faults.specs.declared.StoreFault.TheVariants.{TooFewSlots, NotOpen, MonthOutOfRange, AmountTooLarge, MonthTaken, WantedTooLarge, LastMonth}
+pub use Rattle.histories.specs.Machines.{asks, answers, becomes}
 use Rattle.ledger.specs.Kinds.{Kind}
-use Rattle.ledger.specs.Rules.{Rule}
+use Rattle.ledger.specs.Rules.{Rule, LawfulRule}
 use Rattle.ledger.specs.Ledger.{Ledger, has}
 
 -- a call with its arguments; an opening is of a store that has so many slots
@@ -13,11 +14,19 @@ pub data Call (T : Type 0) : Type 0 where
   draw : (rule : Rule) (wanted : ℕ) → Call T
   turn : Call T
 
--- a call, on a store or an account, asks for this, and is otherwise refused by the fault
-abbrev pub asks : {F : Type 0} → Bool → F → Option F → Option F
-asks holds fault rest = cond holds rest (Some fault)
-
 module _ {T : Type 0} where
+  -- what an accepted call answers
+  abbrev pub Answer : Call T → Type 0
+  Answer (draw rule wanted) = ℕ
+  Answer turn = ℕ × ℕ
+  Answer _ = Unit {0}
+
+  -- the calls that may be accepted after an opening: any with lawful rules, but no further opening
+  abbrev pub Follows : Call T → Type 0
+  Follows (open_for slots month) = ⊥
+  Follows (draw rule wanted) = LawfulRule rule
+  Follows _ = Unit {0}
+
   -- an opening asks for a slot more than the life has months, and for a month from 47 to 1,199
   abbrev pub open_refusal : Kind T → ℕ → ℕ → Option StoreFault
   open_refusal kind slots month = asks (nat_lt kind.life slots) TooFewSlots (asks (nat_le 47 month) MonthOutOfRange (asks (nat_le month 1199) MonthOutOfRange None))
@@ -40,13 +49,3 @@ module _ {T : Type 0} where
   refusal kind (enter amount terms) s = enter_refusal amount s
   refusal kind (draw rule wanted) s = draw_refusal wanted s
   refusal kind turn s = turn_refusal s
-
--- the answer to a call that is refused by this fault, if by any, and otherwise answered with v
-abbrev pub answers : {F V : Type 0} → Option F → V → Result V F
-answers None v = Ok v
-answers (Some fault) v = Err fault
-
--- a refused call leaves things as they are, and an accepted one makes others of them
-abbrev pub becomes : {F X : Type 0} → Option F → X → X → X
-becomes None new old = new
-becomes (Some fault) new old = old

@@ -4,7 +4,6 @@ pub mod Ledger
 pub mod Calls
 pub mod Steps
 pub mod History
-pub mod Runs
 pub mod Totals
 pub mod Told
 pub mod Ways

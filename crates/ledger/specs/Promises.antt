@@ -1,11 +1,12 @@
 -- What a store promises after every history, and what a call keeps of it.
-use Rattle.std.specs.Prelude.{ℕ, ◌+◌, ◌≤◌, [], ◌∷◌, length, Ok, Err, Result}
+use Rattle.std.specs.Prelude.{ℕ, ◌+◌, ◌≤◌, length, Result}
 use Rattle.faults.specs.declared.StoreFault.{StoreFault}
 use Rattle.ledger.specs.Kinds.{Kind}
 use Rattle.ledger.specs.Ledger.{Ledger}
 use Rattle.ledger.specs.Calls.Call.{open_for}
+use Rattle.histories.specs.Histories as histories
 use Rattle.ledger.specs.History.{Event, History, Had}
-use Rattle.ledger.specs.History.Event.{refused}
+use Rattle.ledger.specs.Steps.{machine}
 use Rattle.ledger.specs.Totals.{Balanced}
 use Rattle.ledger.specs.Told.{TellsExactly}
 use Rattle.ledger.specs.Ways.{Way, Fair}
@@ -32,9 +33,8 @@ pub record Promised {T : Type 0} (kind : Kind T) (m₀ : ℕ) (h : History T) (s
 
 -- a call keeps the promise: whatever calls the store has had before, it has had them and this one after, and all is as promised
 abbrev pub Keeps : {T : Type 0} → Kind T → Ledger T → Event T → Ledger T → Type 0
-Keeps {T} kind before event after = (m₀ : ℕ) (h : History T) → Had kind m₀ h before → Promised kind m₀ (event ∷ h) after
+Keeps kind before event after = histories.Keeps (machine kind) (Promised kind) before event after
 
 -- an opening keeps it: an accepted one begins a history, and a refused one is a call like any other
 abbrev pub OpenKeeps : {T : Type 0} → Kind T → Ledger T → ℕ → ℕ → Result (Unit {0}) StoreFault → Ledger T → Type 0
-OpenKeeps kind before slots month (Ok _) after = Promised kind month [] after
-OpenKeeps kind before slots month (Err fault) after = Keeps kind before (refused (open_for slots month) fault) after
+OpenKeeps kind before slots month result after = histories.OpenKeeps (machine kind) (Promised kind) before month (open_for slots month) result after

@@ -1,10 +1,11 @@
 -- Calls are accepted and refused as they should be, said of the history alone.
-use Rattle.std.specs.Prelude.{◌≡◌, ℕ, ◌<◌, ◌≤◌, ◌⊎◌, [], ◌∷◌}
+use Rattle.std.specs.Prelude.{◌≡◌, ℕ, ◌<◌, ◌≤◌, ◌⊎◌}
 use Rattle.faults.specs.Numbers.{store_number}
 use Rattle.ledger.specs.Kinds.{Kind}
 use Rattle.ledger.specs.Calls.Call.{open_for, enter, draw, turn}
-use Rattle.ledger.specs.History.{Event, History, reached}
-use Rattle.ledger.specs.History.Event.{entered, drew, turned, refused}
+use Rattle.histories.specs.Histories.{Always}
+use Rattle.histories.specs.Histories.Event.{did, refused}
+use Rattle.ledger.specs.History.{Event, History, reached, entered, drew, turned}
 use Rattle.ledger.specs.Told.{WasEntered}
 
 module _ {T : Type 0} where
@@ -17,6 +18,7 @@ module _ {T : Type 0} where
   Rightly kind m₀ h (entered amount terms) = (amount ≤ 100000000) × (HasPortion m₀ h → ⊥)
   Rightly kind m₀ h (drew rule wanted answer) = wanted ≤ 1000000000
   Rightly kind m₀ h (turned refunded lost) = reached m₀ h < 1199
+  Rightly kind m₀ h (did (open_for slots month) _) = ⊥
   Rightly kind m₀ h (refused (open_for slots month) fault) =
       ((store_number fault ≡ 1) × (slots ≤ kind.life)) ⊎ ((store_number fault ≡ 2) × (kind.life < slots) × ((month < 47) ⊎ (1199 < month)))
   Rightly kind m₀ h (refused (enter amount terms) fault) =
@@ -26,5 +28,4 @@ module _ {T : Type 0} where
 
   -- every call was accepted or refused as it should have been
   abbrev pub AllRightly : Kind T → ℕ → History T → Type 0
-  AllRightly kind m₀ [] = Unit {0}
-  AllRightly kind m₀ (e ∷ h) = Rightly kind m₀ h e × AllRightly kind m₀ h
+  AllRightly kind m₀ h = Always (Rightly kind m₀) h

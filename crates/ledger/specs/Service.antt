@@ -5,8 +5,7 @@ use Rattle.portions.specs.Portions.{Portion}
 use Rattle.ledger.specs.Kinds.{Kind}
 use Rattle.ledger.specs.Ledger.{Ledger}
 use Rattle.ledger.specs.Steps.{takings}
-use Rattle.ledger.specs.History.{History, Had}
-use Rattle.ledger.specs.History.Event.{entered, drew, turned, refused}
+use Rattle.ledger.specs.History.{History, Had, drew}
 use Rattle.ledger.specs.Totals.{Used, Refunded, Lost}
 use Rattle.ledger.specs.Ways.{Way, Fair, way_used, way_run_out, way_left_from}
 
@@ -20,11 +19,9 @@ module _ {T : Type 0} where
   -- the way is the store's own: in each accepted draw it takes what the rule gave
   abbrev pub Own : Kind T → ℕ → Way → History T → Type 0
   Own kind m₀ way [] = Unit {0}
-  Own kind m₀ way (entered amount terms ∷ h) = Own kind m₀ way h
   Own kind m₀ way (drew rule wanted answer ∷ h) =
       ((s : Ledger T) → Had kind m₀ h s → (k : ℕ) → way (length h) k ≡ taken_from k (takings rule wanted s) s.portions) × Own kind m₀ way h
-  Own kind m₀ way (turned refunded lost ∷ h) = Own kind m₀ way h
-  Own kind m₀ way (refused call fault ∷ h) = Own kind m₀ way h
+  Own kind m₀ way (_ ∷ h) = Own kind m₀ way h
 
   -- what is left in the open portions of month m and later
   abbrev pub left_from : ℕ → List (Portion T) → ℕ

@@ -1,12 +1,13 @@
--- What an accepted call makes of a ledger, and each call's answer and the ledger after it.
-use Rattle.std.specs.Prelude.{ℕ, ◌+◌, Bool, true, not, List, [], ◌∷◌, ◌++◌, filter, Result, nat_lt}
+-- What an accepted call answers and makes of a ledger.
+use Rattle.std.specs.Prelude.{ℕ, ◌+◌, ◌≤◌, Bool, true, not, List, [], ◌∷◌, ◌++◌, filter, nat_lt}
 use Rattle.faults.specs.declared.StoreFault.{StoreFault}
+use Rattle.histories.specs.Machines.{Machine}
 use Rattle.portions.specs.Sums.{total, sum}
 use Rattle.portions.specs.Portions.{Portion, fresh, less}
 use Rattle.ledger.specs.Kinds.{Kind, loss}
 use Rattle.ledger.specs.Rules.{Rule}
 use Rattle.ledger.specs.Ledger.{Ledger, opening, lefts}
-use Rattle.ledger.specs.Calls.{refusal, answers, becomes}
+use Rattle.ledger.specs.Calls.{Call, Answer, Follows, refusal}
 use Rattle.ledger.specs.Calls.Call.{open_for, enter, draw, turn}
 
 module _ {T : Type 0} where
@@ -76,34 +77,19 @@ module _ {T : Type 0} where
     lost = s.lost + losses kind s;
   }
 
-  -- the answer to an opening
-  abbrev pub open_answer : Kind T → ℕ → ℕ → Ledger T → Result (Unit {0}) StoreFault
-  open_answer kind slots month s = answers (refusal kind (open_for slots month) s) tt
+  -- what a call answers where it is accepted
+  abbrev pub answer : Kind T → (call : Call T) → Ledger T → Answer call
+  answer kind (draw rule wanted) s = sum (takings rule wanted s)
+  answer kind turn s = (refunds kind s, losses kind s)
+  answer kind _ s = tt
 
-  -- the ledger after it
-  abbrev pub open_after : Kind T → ℕ → ℕ → Ledger T → Ledger T
-  open_after kind slots month s = becomes (refusal kind (open_for slots month) s) (opening month) s
+  -- and what it makes of the ledger
+  abbrev pub after : Kind T → Call T → Ledger T → Ledger T
+  after kind (open_for slots month) s = opening month
+  after kind (enter amount terms) s = entering amount terms s
+  after kind (draw rule wanted) s = drawing (takings rule wanted s) s
+  after kind turn s = turning kind s
 
-  -- the answer to an enter
-  abbrev pub enter_answer : Kind T → ℕ → T → Ledger T → Result (Unit {0}) StoreFault
-  enter_answer kind amount terms s = answers (refusal kind (enter amount terms) s) tt
-
-  -- the ledger after it
-  abbrev pub enter_after : Kind T → ℕ → T → Ledger T → Ledger T
-  enter_after kind amount terms s = becomes (refusal kind (enter amount terms) s) (entering amount terms s) s
-
-  -- the answer to a draw
-  abbrev pub draw_answer : Kind T → Rule → ℕ → Ledger T → Result ℕ StoreFault
-  draw_answer kind rule wanted s = answers (refusal kind (draw rule wanted) s) (sum (takings rule wanted s))
-
-  -- the ledger after it
-  abbrev pub draw_after : Kind T → Rule → ℕ → Ledger T → Ledger T
-  draw_after kind rule wanted s = becomes (refusal kind (draw rule wanted) s) (drawing (takings rule wanted s) s) s
-
-  -- the answer to a turn
-  abbrev pub turn_answer : Kind T → Ledger T → Result (ℕ × ℕ) StoreFault
-  turn_answer kind s = answers (refusal kind turn s) (refunds kind s, losses kind s)
-
-  -- the ledger after it
-  abbrev pub turn_after : Kind T → Ledger T → Ledger T
-  turn_after kind s = becomes (refusal kind turn s) (turning kind s) s
+  -- a store of this kind, opened for a month, as a machine
+  abbrev pub machine : Kind T → Machine ℕ (Call T) Answer (Ledger T) StoreFault
+  machine kind = record { Opens = λ m. (47 ≤ m) × (m ≤ 1199); opening = opening; Follows = Follows; refusal = refusal kind; answer = answer kind; after = after kind }

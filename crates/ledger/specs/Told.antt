@@ -3,17 +3,14 @@ use Rattle.std.specs.Prelude.{◌≡◌, ℕ, ◌+◌, ◌≤◌, ◌⊎◌, Lis
 use Rattle.portions.specs.Portions.{Portion}
 use Rattle.ledger.specs.Kinds.{Kind}
 use Rattle.ledger.specs.Ledger.{Ledger}
-use Rattle.ledger.specs.History.{History, reached}
-use Rattle.ledger.specs.History.Event.{entered, drew, turned, refused}
+use Rattle.ledger.specs.History.{History, reached, entered}
 
 module _ {T : Type 0} where
   -- a portion of this month, with this amount and these terms, was entered
   abbrev pub WasEntered : ℕ → History T → ℕ → ℕ → T → Type 0
   WasEntered m₀ [] month amount terms = ⊥
   WasEntered m₀ (entered a t ∷ h) month amount terms = ((reached m₀ h ≡ month) × (a ≡ amount) × (t ≡ terms)) ⊎ WasEntered m₀ h month amount terms
-  WasEntered m₀ (drew rule wanted answer ∷ h) month amount terms = WasEntered m₀ h month amount terms
-  WasEntered m₀ (turned refunded lost ∷ h) month amount terms = WasEntered m₀ h month amount terms
-  WasEntered m₀ (refused call fault ∷ h) month amount terms = WasEntered m₀ h month amount terms
+  WasEntered m₀ (_ ∷ h) month amount terms = WasEntered m₀ h month amount terms
 
   -- some portion of the list has this month, amount entered and terms
   abbrev pub Tells : List (Portion T) → ℕ → ℕ → T → Type 0

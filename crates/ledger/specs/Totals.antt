@@ -1,49 +1,38 @@
 -- What a history amounts to: sums over its calls, and the totals told balance with them.
 use Rattle.std.specs.Prelude.{◌≡◌, ℕ, ◌+◌, cond, [], ◌∷◌, ◌==◌}
 use Rattle.ledger.specs.Ledger.{Ledger, left_in}
-use Rattle.ledger.specs.History.{History, reached}
-use Rattle.ledger.specs.History.Event.{entered, drew, turned, refused}
+use Rattle.ledger.specs.History.{History, reached, entered, drew, turned}
 
 module _ {T : Type 0} where
   -- entered: the amounts of the accepted enters
   abbrev pub Entered : History T → ℕ
   Entered [] = 0
   Entered (entered amount terms ∷ h) = Entered h + amount
-  Entered (drew rule wanted answer ∷ h) = Entered h
-  Entered (turned refunded lost ∷ h) = Entered h
-  Entered (refused call fault ∷ h) = Entered h
+  Entered (_ ∷ h) = Entered h
 
   -- used: the answers of the accepted draws
   abbrev pub Used : History T → ℕ
   Used [] = 0
-  Used (entered amount terms ∷ h) = Used h
   Used (drew rule wanted answer ∷ h) = Used h + answer
-  Used (turned refunded lost ∷ h) = Used h
-  Used (refused call fault ∷ h) = Used h
+  Used (_ ∷ h) = Used h
 
   -- refunded: the first answers of the accepted turns
   abbrev pub Refunded : History T → ℕ
   Refunded [] = 0
-  Refunded (entered amount terms ∷ h) = Refunded h
-  Refunded (drew rule wanted answer ∷ h) = Refunded h
   Refunded (turned refunded lost ∷ h) = Refunded h + refunded
-  Refunded (refused call fault ∷ h) = Refunded h
+  Refunded (_ ∷ h) = Refunded h
 
   -- lost: the second answers of the accepted turns
   abbrev pub Lost : History T → ℕ
   Lost [] = 0
-  Lost (entered amount terms ∷ h) = Lost h
-  Lost (drew rule wanted answer ∷ h) = Lost h
   Lost (turned refunded lost ∷ h) = Lost h + lost
-  Lost (refused call fault ∷ h) = Lost h
+  Lost (_ ∷ h) = Lost h
 
   -- what the portion of month k has received
   abbrev pub received : ℕ → History T → ℕ → ℕ
   received m₀ [] k = 0
   received m₀ (entered amount terms ∷ h) k = received m₀ h k + cond (reached m₀ h == k) amount 0
-  received m₀ (drew rule wanted answer ∷ h) k = received m₀ h k
-  received m₀ (turned refunded lost ∷ h) k = received m₀ h k
-  received m₀ (refused call fault ∷ h) k = received m₀ h k
+  received m₀ (_ ∷ h) k = received m₀ h k
 
 -- the totals told are the history's own sums, and entered equals used, refunded, lost and left together
 pub record Balanced {T : Type 0} (h : History T) (s : Ledger T) : Type 0 where

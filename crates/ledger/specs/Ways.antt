@@ -1,8 +1,7 @@
 -- Another way of serving the draws of a history, with the same enters and turns.
 use Rattle.std.specs.Prelude.{ℕ, zero, suc, ◌+◌, ◌-◌, ◌<◌, ◌≤◌, cond, ◌&&◌, [], ◌∷◌, length, nat_le, nat_lt}
 use Rattle.ledger.specs.Kinds.{Kind}
-use Rattle.ledger.specs.History.{History, reached}
-use Rattle.ledger.specs.History.Event.{entered, drew, turned, refused}
+use Rattle.ledger.specs.History.{History, reached, drew}
 use Rattle.ledger.specs.Totals.{received}
 use Rattle.ledger.specs.Told.{WasEntered}
 
@@ -23,18 +22,14 @@ module _ {T : Type 0} where
   -- what a way has taken, over all draws, from the portion of month k
   abbrev pub taken : Way → History T → ℕ → ℕ
   taken way [] k = 0
-  taken way (entered amount terms ∷ h) k = taken way h k
   taken way (drew rule wanted answer ∷ h) k = taken way h k + way (length h) k
-  taken way (turned refunded lost ∷ h) k = taken way h k
-  taken way (refused call fault ∷ h) k = taken way h k
+  taken way (_ ∷ h) k = taken way h k
 
   -- what a way has used: the sum of its takings
   abbrev pub way_used : Way → History T → ℕ
   way_used way [] = 0
-  way_used way (entered amount terms ∷ h) = way_used way h
   way_used way (drew rule wanted answer ∷ h) = way_used way h + over_months (way (length h))
-  way_used way (turned refunded lost ∷ h) = way_used way h
-  way_used way (refused call fault ∷ h) = way_used way h
+  way_used way (_ ∷ h) = way_used way h
 
   -- the portion of month k was entered, and no turn has taken the month past its life
   abbrev pub Open : Kind T → ℕ → History T → ℕ → Type 0
@@ -50,10 +45,8 @@ module _ {T : Type 0} where
   -- a way is fair if its takings in each accepted draw are
   abbrev pub Fair : Kind T → ℕ → Way → History T → Type 0
   Fair kind m₀ way [] = Unit {0}
-  Fair kind m₀ way (entered amount terms ∷ h) = Fair kind m₀ way h
   Fair kind m₀ way (drew rule wanted answer ∷ h) = FairDraw kind m₀ h wanted (taken way h) (way (length h)) × Fair kind m₀ way h
-  Fair kind m₀ way (turned refunded lost ∷ h) = Fair kind m₀ way h
-  Fair kind m₀ way (refused call fault ∷ h) = Fair kind m₀ way h
+  Fair kind m₀ way (_ ∷ h) = Fair kind m₀ way h
 
   -- what a way leaves of the portion of month k
   abbrev pub remains : ℕ → Way → History T → ℕ → ℕ

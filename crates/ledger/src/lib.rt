@@ -3,10 +3,11 @@
 #![tactic(auto)]
 
 ghost use Rattle.std.specs.Prelude.{ℕ};
+ghost use Rattle.histories.specs.Runs.{CallsHaveHistories, HistoriesDecide, BeginningsAreHistories};
 ghost use Rattle.ledger.specs.Kinds.{Kind, LawfulKind};
 ghost use Rattle.ledger.specs.Ledger.{Ledger};
+ghost use Rattle.ledger.specs.Steps.{machine};
 ghost use Rattle.ledger.specs.History.{History, Had};
-ghost use Rattle.ledger.specs.Runs.{CallsHaveHistories, HistoriesDecide};
 ghost use Rattle.ledger.specs.Promises.{Promised};
 
 // A store of a lawful kind keeps its promise after every history.
@@ -16,10 +17,15 @@ pub fn keeps_promise<T>()
 
 // Every list of calls after an opening has a history.
 pub fn calls_have_histories<T>()
-    ensures { (kind : Kind T) → CallsHaveHistories kind }
+    ensures { (kind : Kind T) → CallsHaveHistories (machine kind) }
 {}
 
 // A history decides where the store stands.
 pub fn histories_decide<T>()
-    ensures { (kind : Kind T) → HistoriesDecide kind }
+    ensures { (kind : Kind T) → HistoriesDecide (machine kind) }
+{}
+
+// What a history began with is a history.
+pub fn beginnings_are_histories<T>()
+    ensures { (kind : Kind T) → BeginningsAreHistories (machine kind) }
 {}

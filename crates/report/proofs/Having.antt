@@ -110,14 +110,14 @@ metered_after o h a book (Ok (reading import export)) had = had
 metered_after o h a book (Ok finish) had =
     finish_had (of_metering o) (metered a) h had
     (λ sums. by_refusal (λ (out : Outcome Account). HadBy (of_metering o (after_finish (Some sums) out.answer h)) out.after)
-    (refusal metering (account.enter sums) a) (λ fault e. (a, had, (e, refl))) (λ e. (a, had, (e, refl))))
+    (refusal metering (account.enter sums) a) (λ fault e. (a, had, (e, refl))) (λ e. (a, had, (e, refl, refl, tt))))
     (metering.standing a).month book
 metered_after o h a book (Ok settle) had =
     by_refusal (λ (out : Outcome Account). HadBy (of_metering o (after_settlement out.answer h)) out.after)
     (refusal metering (account.settle settling_rule program_memory.lines) a) (λ fault e. (a, had, (e, refl))) (λ e. (a, had, (e, refl, refl, settling_lawful)))
 metered_after o h a book (Ok turn) had =
     by_refusal (λ (out : Outcome Account). HadBy (of_metering o (after_turn out.answer h)) out.after)
-    (refusal metering account.turn a) (λ fault e. (a, had, (e, refl))) (λ e. (a, had, (e, refl, refl, refl)))
+    (refusal metering account.turn a) (λ fault e. (a, had, (e, refl))) (λ e. (a, had, (e, refl, refl, tt)))
 
 -- and so has a billing account
 billed_after : (o : BillOpening) (h : History BillOpening Payment) (b : BillAccount) (book : Option BookState) (r : Read) → Had billing o h b →
@@ -132,14 +132,14 @@ billed_after o h b book (Ok (reading import export)) had = had
 billed_after o h b book (Ok finish) had =
     finish_had (of_billing o) (billed b) h had
     (λ sums. by_refusal (λ (out : Outcome Account). HadBy (of_billing o (after_finish (Some sums) out.answer h)) out.after)
-    (refusal billing (account.enter sums) b) (λ fault e. (b, had, (e, refl))) (λ e. (b, had, (e, refl))))
+    (refusal billing (account.enter sums) b) (λ fault e. (b, had, (e, refl))) (λ e. (b, had, (e, refl, refl, tt))))
     (billing.standing b).month book
 billed_after o h b book (Ok settle) had =
     by_refusal (λ (out : Outcome Account). HadBy (of_billing o (after_payment out.answer h)) out.after)
     (refusal billing (account.settle settling_rule program_memory.lines) b) (λ fault e. (b, had, (e, refl))) (λ e. (b, had, (e, refl, refl, settling_lawful)))
 billed_after o h b book (Ok turn) had =
     by_refusal (λ (out : Outcome Account). HadBy (of_billing o (after_turn out.answer h)) out.after)
-    (refusal billing account.turn b) (λ fault e. (b, had, (e, refl))) (λ e. (b, had, (e, refl, refl, refl)))
+    (refusal billing account.turn b) (λ fault e. (b, had, (e, refl))) (λ e. (b, had, (e, refl, refl, tt)))
 
 -- an account that has had the calls of a past has had, after a record, those of the past after it
 past_read : (p : Past) (a : Account) (book : Option BookState) (at : ℕ) (bytes : List ℕ) → HadBy p a →

@@ -1,7 +1,8 @@
 -- What every billing account keeps from call to call, and that it keeps its promise.
-use Rattle.std.proofs.Common.{◌≡◌, ℕ, ◌+◌, ◌<◌, ◌≤◌, true, false, None, ◌⊎◌, [], ◌∷◌, sym, refl, subst, inl, inr, arith}
+use Rattle.std.proofs.Common.{◌≡◌, ℕ, ◌+◌, ◌<◌, ◌≤◌, true, false, None, ◌⊎◌, ◌∷◌, sym, refl, subst, inl, inr, arith}
 use Rattle.hours.specs.declared.sums.MonthSums.{MonthSums}
 use Rattle.portions.specs.Taking.{oldest}
+use Rattle.histories.proofs.Runs.{Begins, Leads, holds}
 use Rattle.ledger.specs.Kinds.{LawfulKind}
 use Rattle.ledger.specs.Rules.{Rule, LawfulRule}
 use Rattle.ledger.specs.Ledger.{left_in, lefts, has}
@@ -11,9 +12,10 @@ use Rattle.settlement.specs.declared.answers.Payment.{Payment}
 use Rattle.settlement.specs.declared.states.MonthState.{MonthState}
 use Rattle.settlement.specs.declared.states.MonthState.TheVariants.{Waiting, Entered, Settled}
 use Rattle.settlement.specs.Kinds.{deposit}
-use Rattle.settlement.specs.History.{History, Had, in_all, unsettled, reached, month_state, SettledOldestFirst}
+use Rattle.settlement.specs.Accounts.{machine}
+use Rattle.settlement.specs.Accounts.Call.{open_for, enter, settle, turn}
+use Rattle.settlement.specs.History.{History, Had, in_all, unsettled, reached, month_state, SettledOldestFirst, entered, settled, turned}
 use Rattle.settlement.specs.Refusals.{stands}
-use Rattle.settlement.specs.History.Event.{entered, settled, turned, refused}
 use Rattle.settlement.specs.Promises.{Owed, KeepsPromise}
 use Rattle.settlement.specs.Billing.{BillAccount, BillOpening, billing, paid, month_deposit, month_cap, month_bill, entering_bill, settling_bill, turning_bill}
 use Rattle.settlement.proofs.Cover.{draw_sum, draw_left, length_taking}
@@ -88,22 +90,19 @@ module _ (o : BillOpening) where
   settled_first state (inl e) = let z : ◌≡◌ {A = ℕ} 0 1 = cc e.1 in absurd (omega arith)
   settled_first state (inr e) = e
 
+  sound_leads : Leads (machine billing) o Sound
+  sound_leads (open_for opening) _ h b a = absurd a.follows
+  sound_leads (enter sums) _ h b a = sound_enter h b a.so sums (enter_waits billing b sums a.none)
+  sound_leads (settle rule lines) answer h b a = sound_settle h b a.so rule a.follows lines answer (settle_entered billing b rule lines a.none)
+  sound_leads turn answer h b a = sound_turn h b a.so answer.0 answer.1 (turn_early billing b a.none) (settled_first b.state (turn_from billing b a.none))
+
+  sound_begins : Begins (machine billing) o Sound
+  sound_begins opens =
+      let met = opens_in o.slots o.month _ _ _ _ opens in
+      record { is_open = refl; state_is = refl; month_is = refl; bill_is = refl; few = refl; free = λ w. refl; trace = trace_open deposit o.month (Unit {0}) met.0 met.1 }
+
   pub sound : (h : Calls) (b : BillAccount) → Had billing o h b → Sound h b
-  sound [] b had =
-      let met = opens_in o.slots o.month _ _ _ _ had.0 in
-      subst (Sound []) (sym had.1) (record { is_open = refl; state_is = refl; month_is = refl; bill_is = refl; few = refl; free = λ w. refl; trace = trace_open deposit o.month (Unit {0}) met.0 met.1 })
-  sound (entered sums ∷ h) b had =
-      let was = had.0 in
-      subst (Sound (entered sums ∷ h)) (sym had.2.1) (sound_enter h was (sound h was had.1) sums (enter_waits billing was sums had.2.0))
-  sound (settled rule lines answer ∷ h) b had =
-      let was = had.0 in
-      subst (Sound (settled rule lines answer ∷ h)) (sym had.2.2) (sound_settle h was (sound h was had.1) rule had.2.3 lines answer (settle_entered billing was rule lines had.2.0))
-  sound (turned refunded lost ∷ h) b had =
-      let was = had.0 in
-      subst (Sound (turned refunded lost ∷ h)) (sym had.2.3) (sound_turn h was (sound h was had.1) refunded lost (turn_early billing was had.2.0) (settled_first was.state (turn_from billing was had.2.0)))
-  sound (refused call fault ∷ h) b had =
-      let ih = sound h had.0 had.1 in
-      subst (Sound (refused call fault ∷ h)) (sym had.2.1) (record { is_open = ih.is_open; state_is = ih.state_is; month_is = ih.month_is; bill_is = ih.bill_is; few = ih.few; free = ih.free; trace = ih.trace })
+  sound = holds (machine billing) o Sound sound_begins sound_leads (λ call fault h b so. assumption)
 
 owed : (o : BillOpening) (h : Calls) (rule : Rule) (lines : ℕ) (answer : Payment) (b : BillAccount) → Had billing o (settled rule lines answer ∷ h) b → Owed billing h answer b
 owed o h rule lines answer b had =

@@ -4,7 +4,6 @@ mod Rightly
 pub mod Cover
 mod Trace
 pub mod Lines
-mod Runs
 pub mod Keeps
 pub mod Sums
 pub mod Billed

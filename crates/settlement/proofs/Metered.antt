@@ -2,6 +2,7 @@
 use Rattle.std.proofs.Common.{◌≡◌, ℕ, ◌+◌, ◌-◌, ◌*◌, ◌<◌, ◌≤◌, true, false, cond, leb, Some, ◌⊎◌, List, [], ◌∷◌, ◌++◌, length, sym, refl, ap, ◌∙◌, subst, inl, inr, arith, length-append}
 use Rattle.hours.specs.declared.sums.MonthSums.{MonthSums}
 use Rattle.portions.specs.Taking.{oldest}
+use Rattle.histories.proofs.Runs.{Leads, holds}
 use Rattle.ledger.specs.Kinds.{LawfulKind}
 use Rattle.ledger.specs.Rules.{Rule, LawfulRule}
 use Rattle.ledger.specs.Ledger as ledger
@@ -17,9 +18,10 @@ use Rattle.settlement.specs.Zones.{of}
 use Rattle.settlement.specs.Kinds.{energy}
 use Rattle.settlement.specs.Table.{ends, period_of}
 use Rattle.settlement.specs.Bounds.{months_before, most_pending}
-use Rattle.settlement.specs.History.{History, Had, in_all, unsettled, reached, month_state, SettledOldestFirst}
+use Rattle.settlement.specs.Accounts.{machine}
+use Rattle.settlement.specs.Accounts.Call.{open_for, enter, settle, turn}
+use Rattle.settlement.specs.History.{History, Had, in_all, unsettled, reached, month_state, SettledOldestFirst, entered, settled, turned}
 use Rattle.settlement.specs.Refusals.{stands}
-use Rattle.settlement.specs.History.Event.{entered, settled, turned, refused}
 use Rattle.settlement.specs.Promises.{Owed, KeepsPromise}
 use Rattle.settlement.specs.Metering.{MeterAccount, MeterOpening, Course, metering, opening, coefficient_for, or_monthly, split_by_zone, wanted, cover, covers, own_stores, other_stores, outset, settled_course, entering_meter, settling_meter, turning_meter}
 use Rattle.settlement.proofs.ByZone.{of_all, put_holds, of_each, of_each_two}
@@ -175,20 +177,14 @@ module _ (o : MeterOpening) where
       trace = λ z. subst (Trace energy o.month (SettledOldestFirst o.month h) (in_all (export_of z) h)) (sym (of_each (turning energy) z a.stores)) (trace_turn energy o.month (in_all (export_of z) h) (of z a.stores) (ih.trace z) (omega (arith, ih.months z, early)));
     }
 
+  sound_leads : Leads (machine metering) o Sound
+  sound_leads (open_for opening) _ h a x = absurd x.follows
+  sound_leads (enter sums) _ h a x = sound_enter h a x.so sums (enter_waits metering a sums x.none)
+  sound_leads (settle rule lines) answer h a x = sound_settle h a x.so rule x.follows lines answer (settle_entered metering a rule lines x.none)
+  sound_leads turn answer h a x = sound_turn h a x.so answer.0 answer.1 (turn_early metering a x.none) (turn_from metering a x.none)
+
   pub sound : (h : Calls) (a : MeterAccount) → Had metering o h a → Sound h a
-  sound [] a had = let met = opens_in o.slots o.month _ _ _ _ had.0 in subst (Sound []) (sym had.1) (sound_open met.0 met.1)
-  sound (entered sums ∷ h) a had =
-      let was = had.0 in
-      subst (Sound (entered sums ∷ h)) (sym had.2.1) (sound_enter h was (sound h was had.1) sums (enter_waits metering was sums had.2.0))
-  sound (settled rule lines answer ∷ h) a had =
-      let was = had.0 in
-      subst (Sound (settled rule lines answer ∷ h)) (sym had.2.2) (sound_settle h was (sound h was had.1) rule had.2.3 lines answer (settle_entered metering was rule lines had.2.0))
-  sound (turned refunded lost ∷ h) a had =
-      let was = had.0 in
-      subst (Sound (turned refunded lost ∷ h)) (sym had.2.3) (sound_turn h was (sound h was had.1) refunded lost (turn_early metering was had.2.0) (turn_from metering was had.2.0))
-  sound (refused call fault ∷ h) a had =
-      let ih = sound h had.0 had.1 in
-      subst (Sound (refused call fault ∷ h)) (sym had.2.1) (record { low = ih.low; high = ih.high; is_open = ih.is_open; period_is = ih.period_is; state_is = ih.state_is; month_is = ih.month_is; months = ih.months; pending_is = ih.pending_is; few = ih.few; free = ih.free; trace = ih.trace })
+  sound = holds (machine metering) o Sound (λ opens. let met = opens_in o.slots o.month _ _ _ _ opens in sound_open met.0 met.1) sound_leads (λ call fault h a so. assumption)
 
 owed : (o : MeterOpening) (h : Calls) (rule : Rule) (lines : ℕ) (answer : Settlement) (a : MeterAccount) → Had metering o (settled rule lines answer ∷ h) a → Owed metering h answer a
 owed o h rule lines answer a had =

@@ -1,5 +1,5 @@
 -- Calls are accepted and refused as they should be, in the words of the history.
-use Rattle.std.proofs.Common.{◌≡◌, ℕ, ◌<◌, ◌≤◌, Bool, true, false, eqb, ltb, leb, ◌⊎◌, [], ◌∷◌, Some, None, Option, sym, refl, ap, ◌∙◌, inl, inr, arith}
+use Rattle.std.proofs.Common.{◌≡◌, ℕ, ◌<◌, ◌≤◌, Bool, true, false, eqb, ltb, leb, ◌⊎◌, ◌∷◌, Some, None, Option, sym, refl, ap, ◌∙◌, inl, inr, arith}
 use Rattle.std.specs.Option.{option_or}
 use Rattle.std.specs.Result.{result_err}
 use Rattle.std.proofs.lemmas.Bool.{eqb-true, eqb-false, leb-true, leb-false, ltb-true, ltb-false}
@@ -7,6 +7,8 @@ use Rattle.faults.specs.declared.AccountFault.{AccountFault}
 use Rattle.faults.specs.declared.AccountFault.TheVariants.{InStore, OtherMonth, TooFewLines, AlreadyEntered, NothingEntered, PeriodGoesOn, NotSettled, AlreadySettled}
 use Rattle.faults.specs.declared.StoreFault.TheVariants.{LastMonth}
 use Rattle.faults.specs.Numbers.{account_number}
+use Rattle.histories.specs.Histories.Event.{did, refused}
+use Rattle.histories.proofs.Runs.{always}
 use Rattle.ledger.specs.Calls.{asks}
 use Rattle.settlement.specs.declared.standing.Standing.{Standing}
 use Rattle.settlement.specs.declared.states.MonthState.{MonthState}
@@ -14,11 +16,10 @@ use Rattle.settlement.specs.declared.states.MonthState.TheVariants.{Waiting, Ent
 use Rattle.settlement.specs.declared.states.Call.TheVariants.{Enter, Settle, Turn}
 use Rattle.settlement.specs.Table.{table}
 use Rattle.settlement.specs.Standing.{enter_refusal, settle_refusal, turn_refusal}
-use Rattle.settlement.specs.Accounts.{Workings}
+use Rattle.settlement.specs.Accounts.{Workings, machine}
 use Rattle.settlement.specs.Accounts.Call.{open_for, enter, settle, turn}
-use Rattle.settlement.specs.History.{History, Had, month_state}
-use Rattle.settlement.specs.History.Event.{entered, settled, turned, refused}
-use Rattle.settlement.specs.Refusals.{month_now, ends_now, stands, AllRightly}
+use Rattle.settlement.specs.History.{Event, History, Had, month_state, entered, settled, turned}
+use Rattle.settlement.specs.Refusals.{month_now, ends_now, stands, Rightly, AllRightly}
 use Rattle.settlement.proofs.Tables.{never, asked, option_or_none, enters_in, settles_in, turns_in}
 
 -- where an account stands, by its parts
@@ -126,16 +127,17 @@ module _ {O A S Z T : Type 0} (works : Workings O A S Z T) (told : (o : O) (h : 
   moved : (o : O) (h : History O S) (a : A) → Had works o h a → (f : Standing → Option AccountFault) (r : Option AccountFault) → f (works.standing a) ≡ r → f (stands works o h) ≡ r
   moved o h a had f r e = ap f (sym (told o h a had)) ∙ e
 
+  -- the event that ends a history was accepted or refused as it should have been
+  rightly : (o : O) (h : History O S) (e : Event O S) (a : A) → Had works o (e ∷ h) a → Rightly works o h e
+  rightly o h (entered sums) a had = entered_rightly works o h sums.month (moved o h had.0 had.1 (λ s. enter_refusal s sums.month) None had.2.0)
+  rightly o h (settled rule lines answer) a had = settled_rightly works o h works.fewest_lines lines (moved o h had.0 had.1 (λ s. settle_refusal s works.fewest_lines lines) None had.2.0)
+  rightly o h (turned refunded lost) a had = turned_rightly works o h (moved o h had.0 had.1 turn_refusal None had.2.0)
+  rightly o h (did (open_for opening) _) a had = had.2.3
+  rightly o h (refused (open_for opening) fault) a had = had.2.0
+  rightly o h (refused (enter sums) fault) a had = enter_refused works o h sums.month fault (moved o h had.0 had.1 (λ s. enter_refusal s sums.month) (Some fault) had.2.0)
+  rightly o h (refused (settle rule lines) fault) a had =
+      settle_refused works o h works.fewest_lines lines fault (moved o h had.0 had.1 (λ s. settle_refusal s works.fewest_lines lines) (Some fault) had.2.0)
+  rightly o h (refused turn fault) a had = turn_refused works o h fault (moved o h had.0 had.1 turn_refusal (Some fault) had.2.0)
+
   pub all_rightly : (o : O) (h : History O S) (a : A) → Had works o h a → AllRightly works o h
-  all_rightly o [] a had = tt
-  all_rightly o (entered sums ∷ h) a had =
-      (entered_rightly works o h sums.month (moved o h had.0 had.1 (λ s. enter_refusal s sums.month) None had.2.0), all_rightly o h had.0 had.1)
-  all_rightly o (settled rule lines answer ∷ h) a had =
-      (settled_rightly works o h works.fewest_lines lines (moved o h had.0 had.1 (λ s. settle_refusal s works.fewest_lines lines) None had.2.0), all_rightly o h had.0 had.1)
-  all_rightly o (turned refunded lost ∷ h) a had = (turned_rightly works o h (moved o h had.0 had.1 turn_refusal None had.2.0), all_rightly o h had.0 had.1)
-  all_rightly o (refused (open_for opening) fault ∷ h) a had = (had.2.0, all_rightly o h had.0 had.1)
-  all_rightly o (refused (enter sums) fault ∷ h) a had =
-      (enter_refused works o h sums.month fault (moved o h had.0 had.1 (λ s. enter_refusal s sums.month) (Some fault) had.2.0), all_rightly o h had.0 had.1)
-  all_rightly o (refused (settle rule lines) fault ∷ h) a had =
-      (settle_refused works o h works.fewest_lines lines fault (moved o h had.0 had.1 (λ s. settle_refusal s works.fewest_lines lines) (Some fault) had.2.0), all_rightly o h had.0 had.1)
-  all_rightly o (refused turn fault ∷ h) a had = (turn_refused works o h fault (moved o h had.0 had.1 turn_refusal (Some fault) had.2.0), all_rightly o h had.0 had.1)
+  all_rightly o = always (machine works) o (Rightly works o) (rightly o)

@@ -10,8 +10,7 @@ use Rattle.ledger.specs.Ledger.{Ledger, opening, lefts, has}
 use Rattle.ledger.specs.Calls.{refusal}
 use Rattle.ledger.specs.Calls.Call.{enter, draw, turn}
 use Rattle.ledger.specs.Steps.{entering, takings, drawing, stays_in, refunds, losses, turning}
-use Rattle.ledger.specs.History.{History, Had}
-use Rattle.ledger.specs.History.Event.{entered, drew, turned}
+use Rattle.ledger.specs.History.{History, Had, entered, drew, turned}
 use Rattle.ledger.specs.Totals.{Entered}
 use Rattle.ledger.specs.Best.{WentOldestFirst}
 use Rattle.ledger.proofs.Lists.{UpTo, upto_kept}
@@ -37,7 +36,7 @@ module _ {T : Type 0} (kind : Kind T) (m₀ : ℕ) where
   trace_under n s f t = record { calls = t.calls; had = t.had; entered_is = t.entered_is; accepted = t.accepted; oldest_first = λ o. t.oldest_first (f o) }
 
   pub trace_open : (Old : Type 0) → 47 ≤ m₀ → m₀ ≤ 1199 → Trace Old 0 (opening m₀)
-  trace_open Old from to = record { calls = []; had = (from, to, refl); entered_is = refl; accepted = tt; oldest_first = λ o. tt }
+  trace_open Old from to = record { calls = []; had = ((from, to), refl); entered_is = refl; accepted = tt; oldest_first = λ o. tt }
 
   module _ {Old : Type 0} (n : ℕ) (s : Ledger T) (t : Trace Old n s) where
     is_open : s.opened ≡ true
@@ -46,7 +45,7 @@ module _ {T : Type 0} (kind : Kind T) (m₀ : ℕ) where
     pub trace_enter : (amount : ℕ) (terms : T) → amount ≤ 100000000 → has s.month s.portions ≡ false → Trace Old (n + amount) (entering amount terms s)
     trace_enter amount terms small free =
         let none' : refusal kind (enter amount terms) s ≡ None = simp (is_open, le-leb amount 100000000 small, free) in
-        record { calls = entered amount terms ∷ t.calls; had = (s, t.had, (none', refl)); entered_is = omega (arith, t.entered_is); accepted = t.accepted; oldest_first = t.oldest_first }
+        record { calls = entered amount terms ∷ t.calls; had = (s, t.had, (none', refl, refl, tt)); entered_is = omega (arith, t.entered_is); accepted = t.accepted; oldest_first = t.oldest_first }
 
     pub trace_draw : (rule : Rule) → LawfulRule rule → (Old → (ls : List ℕ) (want : ℕ) → rule s.month ls want ≡ oldest ls want) → (w : ℕ) → w ≤ 1000000000 → Trace Old n (drawing (takings rule w s) s)
     trace_draw rule law old w small =
@@ -63,7 +62,7 @@ module _ {T : Type 0} (kind : Kind T) (m₀ : ℕ) where
     pub trace_turn : s.month < 1199 → Trace Old n (turning kind s)
     trace_turn early =
         let none' : refusal kind turn s ≡ None = simp (is_open, lt-ltb s.month 1199 early) in
-        record { calls = turned (refunds kind s) (losses kind s) ∷ t.calls; had = (s, t.had, (none', refl, refl, refl)); entered_is = t.entered_is; accepted = t.accepted; oldest_first = t.oldest_first }
+        record { calls = turned (refunds kind s) (losses kind s) ∷ t.calls; had = (s, t.had, (none', refl, refl, tt)); entered_is = t.entered_is; accepted = t.accepted; oldest_first = t.oldest_first }
 
     -- a month that was just turned to has no portion yet
     pub turned_free : has (s.month + 1) (turning kind s).portions ≡ false

@@ -1,9 +1,10 @@
 -- Accounts of either sort: how one works, its calls, and by which fault each is refused.
-use Rattle.std.specs.Prelude.{ℕ, Bool, List, Option}
+use Rattle.std.specs.Prelude.{◌≡◌, ℕ, Bool, List, None, Option}
 use Rattle.faults.specs.declared.AccountFault.{AccountFault}
+use Rattle.histories.specs.Machines.{Machine}
 use Rattle.hours.specs.declared.sums.MonthSums.{MonthSums}
 use Rattle.ledger.specs.Kinds.{Kind}
-use Rattle.ledger.specs.Rules.{Rule}
+use Rattle.ledger.specs.Rules.{Rule, LawfulRule}
 use Rattle.ledger.specs.Ledger.{Ledger}
 use Rattle.settlement.specs.declared.answers.Line.{Line}
 use Rattle.settlement.specs.declared.standing.Standing.{Standing}
@@ -15,6 +16,18 @@ pub data Call (O : Type 0) : Type 0 where
   enter : (sums : MonthSums) → Call O
   settle : (rule : Rule) (lines : ℕ) → Call O
   turn : Call O
+
+-- what an accepted call answers, where settlements answer S
+abbrev pub Answer : {O : Type 0} → Type 0 → Call O → Type 0
+Answer S (settle rule lines) = S
+Answer S turn = ℕ × ℕ
+Answer S _ = Unit {0}
+
+-- the calls that may be accepted after an opening: any with lawful rules, but no further opening
+abbrev pub Follows : {O : Type 0} → Call O → Type 0
+Follows (open_for opening) = ⊥
+Follows (settle rule lines) = LawfulRule rule
+Follows _ = Unit {0}
 
 -- a sort of account A: opened for O, it has for each of the zones Z a store of portions with the terms T, and its settlements answer S
 pub record Workings (O A S Z T : Type 0) : Type 0 where
@@ -53,3 +66,20 @@ module _ {O A S Z T : Type 0} (works : Workings O A S Z T) where
   refusal (enter sums) a = enter_refusal (works.standing a) sums.month
   refusal (settle rule lines) a = settle_refusal (works.standing a) works.fewest_lines lines
   refusal turn a = turn_refusal (works.standing a)
+
+  -- what a call answers where it is accepted
+  abbrev pub answer : (call : Call O) → A → Answer S call
+  answer (settle rule lines) a = works.settlement rule a
+  answer turn a = (works.refunds a, works.losses a)
+  answer _ a = tt
+
+  -- and what it makes of the account
+  abbrev pub after : Call O → A → A
+  after (open_for opening) a = works.opening opening
+  after (enter sums) a = works.entering sums a
+  after (settle rule lines) a = works.settling rule a
+  after turn a = works.turning a
+
+  -- an account as a machine
+  abbrev pub machine : Machine O (Call O) (Answer S) A AccountFault
+  machine = record { Opens = λ opening. works.open_refusal opening ≡ None; opening = works.opening; Follows = Follows; refusal = refusal; answer = answer; after = after }

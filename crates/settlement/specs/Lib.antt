@@ -9,7 +9,6 @@ pub mod Accounts
 pub mod Steps
 pub mod History
 pub mod Accepted
-pub mod Runs
 pub mod Refusals
 pub mod Promises
 pub mod Metering

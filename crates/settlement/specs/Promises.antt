@@ -1,6 +1,7 @@
 -- What an account promises after every history, and what a call keeps of it.
-use Rattle.std.specs.Prelude.{◌≡◌, ◌+◌, ◌<◌, ◌≤◌, [], ◌∷◌, length, Ok, Err, Result}
+use Rattle.std.specs.Prelude.{◌≡◌, ◌+◌, ◌<◌, ◌≤◌, [], ◌∷◌, length, Result}
 use Rattle.faults.specs.declared.AccountFault.{AccountFault}
+use Rattle.histories.specs.Histories as histories
 use Rattle.ledger.specs.Rules.{Rule}
 use Rattle.ledger.specs.Ledger.{left_in}
 use Rattle.ledger.specs.History as store
@@ -8,11 +9,10 @@ use Rattle.ledger.specs.Totals as store_totals
 use Rattle.ledger.specs.Best.{WentOldestFirst}
 use Rattle.ledger.specs.Promises as store_promise
 use Rattle.settlement.specs.Accepted.{NoneRefused}
-use Rattle.settlement.specs.Accounts.{Workings}
+use Rattle.settlement.specs.Accounts.{Workings, machine}
 use Rattle.settlement.specs.Accounts.Call.{open_for}
-use Rattle.settlement.specs.History.{Event, History, Had, in_all, unsettled, SettledOldestFirst}
+use Rattle.settlement.specs.History.{Event, History, Had, in_all, unsettled, SettledOldestFirst, settled}
 use Rattle.settlement.specs.Refusals.{stands, AllRightly}
-use Rattle.settlement.specs.History.Event.{entered, settled, turned, refused}
 
 module _ {O A S Z T : Type 0} (works : Workings O A S Z T) where
   -- a settlement that answers so after the calls h, and leaves the account at a
@@ -25,10 +25,8 @@ module _ {O A S Z T : Type 0} (works : Workings O A S Z T) where
   -- every accepted settlement of the history was so
   abbrev pub AllOwed : O → History O S → Type 0
   AllOwed o [] = Unit {0}
-  AllOwed o (entered sums ∷ h) = AllOwed o h
   AllOwed o (settled rule lines answer ∷ h) = ((a : A) → Had works o (settled rule lines answer ∷ h) a → Owed h answer a) × AllOwed o h
-  AllOwed o (turned refunded lost ∷ h) = AllOwed o h
-  AllOwed o (refused call fault ∷ h) = AllOwed o h
+  AllOwed o (_ ∷ h) = AllOwed o h
 
   -- the store of a zone has had calls of its own, and all that a store promises holds of them
   pub record StoreKeeps (o : O) (h : History O S) (a : A) (z : Z) : Type 0 where
@@ -62,9 +60,8 @@ module _ {O A S Z T : Type 0} (works : Workings O A S Z T) where
 
   -- a call keeps the promise: whatever calls the account has had before, it has had them and this one after, and all is as promised
   abbrev pub Keeps : A → Event O S → A → Type 0
-  Keeps before event after = (o : O) (h : History O S) → Had works o h before → Promised o (event ∷ h) after
+  Keeps before event after = histories.Keeps (machine works) Promised before event after
 
   -- an opening keeps it: an accepted one begins a history, and a refused one is a call like any other
   abbrev pub OpenKeeps : A → O → Result (Unit {0}) AccountFault → A → Type 0
-  OpenKeeps before opening (Ok _) after = Promised opening [] after
-  OpenKeeps before opening (Err fault) after = Keeps before (refused (open_for opening) fault) after
+  OpenKeeps before opening result after = histories.OpenKeeps (machine works) Promised before opening (open_for opening) result after

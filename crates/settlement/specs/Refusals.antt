@@ -1,12 +1,13 @@
 -- Calls are accepted and refused as they should be, said of the history alone.
-use Rattle.std.specs.Prelude.{◌≡◌, ℕ, ◌<◌, ◌≤◌, Bool, true, false, ◌⊎◌, [], ◌∷◌, Some, ◌≢◌}
+use Rattle.std.specs.Prelude.{◌≡◌, ℕ, ◌<◌, ◌≤◌, Bool, true, false, ◌⊎◌, Some, ◌≢◌}
 use Rattle.faults.specs.Numbers.{account_number}
+use Rattle.histories.specs.Histories.{Always}
+use Rattle.histories.specs.Histories.Event.{did, refused}
 use Rattle.settlement.specs.declared.standing.Standing.{Standing}
 use Rattle.settlement.specs.declared.states.MonthState.TheVariants.{Waiting, Entered, Settled}
 use Rattle.settlement.specs.Accounts.{Workings}
 use Rattle.settlement.specs.Accounts.Call.{open_for, enter, settle, turn}
-use Rattle.settlement.specs.History.{Event, History, reached, month_state}
-use Rattle.settlement.specs.History.Event.{entered, settled, turned, refused}
+use Rattle.settlement.specs.History.{Event, History, reached, month_state, entered, settled, turned}
 
 module _ {O A S Z T : Type 0} (works : Workings O A S Z T) where
   -- the month reached
@@ -26,6 +27,7 @@ module _ {O A S Z T : Type 0} (works : Workings O A S Z T) where
   Rightly o h (entered sums) = (sums.month ≡ month_now o h) × (month_state h ≡ Waiting)
   Rightly o h (settled rule lines answer) = (month_state h ≡ Entered) × (ends_now o h ≡ true) × (works.fewest_lines ≤ lines)
   Rightly o h (turned refunded lost) = (month_now o h < 1199) × (((month_state h ≡ Entered) × (ends_now o h ≡ false)) ⊎ (month_state h ≡ Settled))
+  Rightly o h (did (open_for opening) _) = ⊥
   Rightly o h (refused (open_for opening) fault) = works.open_refusal opening ≡ Some fault
   Rightly o h (refused (enter sums) fault) =
       ((account_number fault ≡ 24) × (sums.month ≢ month_now o h))
@@ -42,5 +44,4 @@ module _ {O A S Z T : Type 0} (works : Workings O A S Z T) where
 
   -- every call was accepted or refused as it should have been
   abbrev pub AllRightly : O → History O S → Type 0
-  AllRightly o [] = Unit {0}
-  AllRightly o (e ∷ h) = Rightly o h e × AllRightly o h
+  AllRightly o h = Always (Rightly o) h

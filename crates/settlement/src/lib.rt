@@ -2,7 +2,8 @@
 #![tactic(auto)]
 
 ghost use Rattle.settlement.specs.Promises.{KeepsPromise};
-ghost use Rattle.settlement.specs.Runs.{CallsHaveHistories, HistoriesDecide};
+ghost use Rattle.histories.specs.Runs.{CallsHaveHistories, HistoriesDecide, BeginningsAreHistories};
+ghost use Rattle.settlement.specs.Accounts.{machine};
 ghost use Rattle.settlement.specs.Metering.{metering};
 ghost use Rattle.settlement.specs.Billing.{billing};
 
@@ -29,12 +30,18 @@ pub fn billing_keeps_promise()
 
 // Every list of calls after an opening has a history.
 pub fn calls_have_histories()
-    ensures metering { CallsHaveHistories metering }
-    ensures billing { CallsHaveHistories billing }
+    ensures metering { CallsHaveHistories (machine metering) }
+    ensures billing { CallsHaveHistories (machine billing) }
 {}
 
 // A history decides where the account stands.
 pub fn histories_decide()
-    ensures metering { HistoriesDecide metering }
-    ensures billing { HistoriesDecide billing }
+    ensures metering { HistoriesDecide (machine metering) }
+    ensures billing { HistoriesDecide (machine billing) }
+{}
+
+// What a history began with is a history.
+pub fn beginnings_are_histories()
+    ensures metering { BeginningsAreHistories (machine metering) }
+    ensures billing { BeginningsAreHistories (machine billing) }
 {}

@@ -7,10 +7,12 @@ use Rattle.portions.specs.declared.Kind.{Ghosts}
 use Rattle.portions.specs.Portions.{Portion, less}
 use Rattle.portions.specs.Slots.{reads, plain}
 use Rattle.portions.specs.Totals.{total_map}
+use Rattle.histories.specs.Machines.{gives, leaves}
+use Rattle.ledger.specs.Calls.Call.{draw}
 use Rattle.ledger.specs.Rules.{Rule, LawfulRule}
 use Rattle.ledger.specs.Ledger.{has, left_in, lefts}
 use Rattle.ledger.specs.Calls.{draw_refusal, answers, becomes}
-use Rattle.ledger.specs.Steps.{taking, takings, drawing, draw_answer, draw_after}
+use Rattle.ledger.specs.Steps.{machine, taking, takings, drawing}
 use Rattle.ledger.proofs.Asked.{draw_met}
 use Rattle.store.specs.declared.Store.{Store}
 use Rattle.store.specs.declared.rows.Rows.{Rows}
@@ -96,11 +98,11 @@ module _ {K T : Type 0} {k : Ghosts K T} (s : Store K T k) (rule : Rule) (law : 
         )
 
     -- where nothing refuses it, a draw takes what the rule gives
-    pub drawn_answer : draw_refusal w (ledger_of k s) ≡ None → Ok n ≡ draw_answer (kind_of k) rule w (ledger_of k s)
+    pub drawn_answer : draw_refusal w (ledger_of k s) ≡ None → Ok n ≡ gives (machine (kind_of k)) (draw rule w) (ledger_of k s)
     drawn_answer none = ap Ok (summed ∙ ap sum gave) ∙ ap (λ x. answers x (sum (takings rule w (ledger_of k s)))) (sym none)
 
     pub drawn_after : draw_refusal w (ledger_of k s) ≡ None → (totals' : Totals) → totals' ≡ more_used s.totals n →
-        read_off k rows' s.opened s.month totals' ≡ draw_after (kind_of k) rule w (ledger_of k s)
+        read_off k rows' s.opened s.month totals' ≡ leaves (machine (kind_of k)) (draw rule w) (ledger_of k s)
     drawn_after none totals' counted =
         let l = ledger_of k s in
         let o = (draw_met w l none).is_open in

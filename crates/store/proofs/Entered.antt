@@ -6,9 +6,11 @@ use Rattle.portions.specs.declared.Kind.{Ghosts}
 use Rattle.portions.specs.Portions.{Portion, fresh}
 use Rattle.portions.specs.Slots.{reads, plain}
 use Rattle.portions.specs.Totals.{total_push}
+use Rattle.histories.specs.Machines.{leaves}
+use Rattle.ledger.specs.Calls.Call.{enter}
 use Rattle.ledger.specs.Ledger.{has, left_in}
 use Rattle.ledger.specs.Calls.{enter_refusal, becomes}
-use Rattle.ledger.specs.Steps.{entering, enter_after}
+use Rattle.ledger.specs.Steps.{machine, entering}
 use Rattle.ledger.proofs.Asked.{EnterMet}
 use Rattle.store.specs.declared.Store.{Store}
 use Rattle.store.specs.declared.rows.Rows.{Rows}
@@ -53,7 +55,7 @@ module _ {K T : Type 0} {k : Ghosts K T} (s : Store K T k) (a : ℕ) (met : Ente
         map_push g (held s.rows) row
 
     pub entered_after : enter_refusal a (ledger_of k s) ≡ None → (totals' : Totals) → totals' ≡ more_entered s.totals a →
-        read_off k rows' s.opened s.month totals' ≡ enter_after (kind_of k) a t (ledger_of k s)
+        read_off k rows' s.opened s.month totals' ≡ leaves (machine (kind_of k)) (enter a t) (ledger_of k s)
     entered_after none totals' counted =
         let o = met.is_open in
         let e = push (reads k.term) ∙ ap (λ p. map (reads k.term) (held s.rows) ++ p ∷ []) is in

@@ -4,9 +4,11 @@ use Rattle.std.proofs.lemmas.Bool.{cases_Bool}
 use Rattle.portions.specs.declared.Kind.{Ghosts}
 use Rattle.portions.specs.Portions.{Portion}
 use Rattle.portions.specs.Slots.{reads, plain}
+use Rattle.histories.specs.Machines.{gives, leaves}
+use Rattle.ledger.specs.Calls.Call.{turn}
 use Rattle.ledger.specs.Ledger.{has, left_in}
 use Rattle.ledger.specs.Calls.{turn_refusal, answers, becomes}
-use Rattle.ledger.specs.Steps.{stays_in, refunds, losses, turning, turn_answer, turn_after}
+use Rattle.ledger.specs.Steps.{machine, stays_in, refunds, losses, turning}
 use Rattle.ledger.proofs.Asked.{TurnMet, turn_met}
 use Rattle.store.specs.declared.Store.{Store}
 use Rattle.store.specs.declared.rows.Rows.{Rows}
@@ -74,7 +76,7 @@ module _ {K T : Type 0} {k : Ghosts K T} (s : Store K T k) (rows' : Rows) (r x :
     losses_are = lost ∙ losses_rows k (s.month + 1) (held s.rows)
 
     pub turned_after : turn_refusal (ledger_of k s) ≡ None → (totals' : Totals) → totals' ≡ more_ended s.totals r x →
-        read_off k rows' s.opened (s.month + 1) totals' ≡ turn_after (kind_of k) (ledger_of k s)
+        read_off k rows' s.opened (s.month + 1) totals' ≡ leaves (machine (kind_of k)) turn (ledger_of k s)
     turned_after none totals' counted =
         let o = (turn_met (ledger_of k s) none).is_open in
         let a = refunds_are in
@@ -83,7 +85,7 @@ module _ {K T : Type 0} {k : Ghosts K T} (s : Store K T k) (rows' : Rows) (r x :
         let state : read_off k rows' s.opened (s.month + 1) totals' ≡ turning (kind_of k) (ledger_of k s) = simp (o, q, counted, a, b) in
         state ∙ ap (λ y. becomes y (turning (kind_of k) (ledger_of k s)) (ledger_of k s)) (sym none)
 
-    pub turned_answer : turn_refusal (ledger_of k s) ≡ None → Ok (r, x) ≡ turn_answer (kind_of k) (ledger_of k s)
+    pub turned_answer : turn_refusal (ledger_of k s) ≡ None → Ok (r, x) ≡ gives (machine (kind_of k)) turn (ledger_of k s)
     turned_answer none =
         let l = ledger_of k s in
         ap (λ z. Ok (z, x)) refunds_are ∙ ap (λ z. Ok (refunds (kind_of k) l, z)) losses_are ∙ ap (λ z. answers z (refunds (kind_of k) l, losses (kind_of k) l)) (sym none)

@@ -1,7 +1,9 @@
 ghost use Rattle.std.specs.Prelude.{◌≡◌, is_ok};
 ghost use Rattle.ledger.specs.Ledger.{closed};
-ghost use Rattle.ledger.specs.Steps.{open_answer, open_after, enter_answer, enter_after, draw_answer, draw_after, turn_answer, turn_after};
-ghost use Rattle.ledger.specs.History.{enter_event, draw_event, turn_event};
+ghost use Rattle.histories.specs.Machines.{gives, leaves};
+ghost use Rattle.histories.specs.Histories.{event};
+ghost use Rattle.ledger.specs.Calls.Call.{open_for, enter, draw, turn};
+ghost use Rattle.ledger.specs.Steps.{machine};
 ghost use Rattle.ledger.specs.Promises.{Keeps, OpenKeeps};
 ghost use Rattle.store.specs.Held.{lent, room};
 ghost use Rattle.store.specs.Reading.{kind_of, ledger_of};
@@ -33,8 +35,8 @@ impl<'a, K: Kind> Store<'a, K> {
 
     // Starts anew in a month from 47 to 1,199, without portions and with totals 0.
     pub fn open(&mut self, month: u16) -> Result<(), StoreFault>
-        ensures answer { result ≡ open_answer (kind_of K.Kind) (room self.old) month (ledger_of K.Kind self.old) }
-        ensures state { ledger_of K.Kind self.new ≡ open_after (kind_of K.Kind) (room self.old) month (ledger_of K.Kind self.old) }
+        ensures answer { result ≡ gives (machine (kind_of K.Kind)) (open_for (room self.old) month) (ledger_of K.Kind self.old) }
+        ensures state { ledger_of K.Kind self.new ≡ leaves (machine (kind_of K.Kind)) (open_for (room self.old) month) (ledger_of K.Kind self.old) }
         ensures slots { lent self.new ≡ lent self.old }
         ensures lender { self.new.rows.slots.ghost_name ≡ self.old.rows.slots.ghost_name }
         ensures promised { OpenKeeps (kind_of K.Kind) (ledger_of K.Kind self.old) (room self.old) month result (ledger_of K.Kind self.new) }
@@ -49,10 +51,10 @@ impl<'a, K: Kind> Store<'a, K> {
 
     // Adds a portion of the current month, also of amount 0. Amount and terms become the portion here, so they are no struct before.
     pub fn enter(&mut self, amount: u32, terms: K::Terms) -> Result<(), StoreFault>
-        ensures answer { result ≡ enter_answer (kind_of K.Kind) amount terms (ledger_of K.Kind self.old) }
-        ensures state { ledger_of K.Kind self.new ≡ enter_after (kind_of K.Kind) amount terms (ledger_of K.Kind self.old) }
+        ensures answer { result ≡ gives (machine (kind_of K.Kind)) (enter amount terms) (ledger_of K.Kind self.old) }
+        ensures state { ledger_of K.Kind self.new ≡ leaves (machine (kind_of K.Kind)) (enter amount terms) (ledger_of K.Kind self.old) }
         ensures slots { Accounted (is_ok result) self.old self.new }
-        ensures promised { Keeps (kind_of K.Kind) (ledger_of K.Kind self.old) (enter_event amount terms result) (ledger_of K.Kind self.new) }
+        ensures promised { Keeps (kind_of K.Kind) (ledger_of K.Kind self.old) (event (enter amount terms) result) (ledger_of K.Kind self.new) }
     {
         let portion = self.admit(amount, terms)?;
         self.rows.push(portion.row());
@@ -62,10 +64,10 @@ impl<'a, K: Kind> Store<'a, K> {
 
     // Takes what the rule gives: the sum taken. Rule and amount are a draw's two arguments, a generic and a number, so no struct of them.
     pub fn draw<R: Rule>(&mut self, rule: &R, wanted: u32) -> Result<u64, StoreFault>
-        ensures answer { result ≡ draw_answer (kind_of K.Kind) (R.Rule.gives rule.now) wanted (ledger_of K.Kind self.old) }
-        ensures state { ledger_of K.Kind self.new ≡ draw_after (kind_of K.Kind) (R.Rule.gives rule.now) wanted (ledger_of K.Kind self.old) }
+        ensures answer { result ≡ gives (machine (kind_of K.Kind)) (draw (R.Rule.gives rule.now) wanted) (ledger_of K.Kind self.old) }
+        ensures state { ledger_of K.Kind self.new ≡ leaves (machine (kind_of K.Kind)) (draw (R.Rule.gives rule.now) wanted) (ledger_of K.Kind self.old) }
         ensures slots { Accounted (is_ok result) self.old self.new }
-        ensures promised { Keeps (kind_of K.Kind) (ledger_of K.Kind self.old) (draw_event (R.Rule.gives rule.now) wanted result) (ledger_of K.Kind self.new) }
+        ensures promised { Keeps (kind_of K.Kind) (ledger_of K.Kind self.old) (event (draw (R.Rule.gives rule.now) wanted) result) (ledger_of K.Kind self.new) }
     {
         self.may_draw(wanted)?;
         let left = self.lefts();
@@ -78,10 +80,10 @@ impl<'a, K: Kind> Store<'a, K> {
 
     // Raises the month by one, and ends the portions past their life: their refunds and losses, summed.
     pub fn turn(&mut self) -> Result<(u64, u64), StoreFault>
-        ensures answer { result ≡ turn_answer (kind_of K.Kind) (ledger_of K.Kind self.old) }
-        ensures state { ledger_of K.Kind self.new ≡ turn_after (kind_of K.Kind) (ledger_of K.Kind self.old) }
+        ensures answer { result ≡ gives (machine (kind_of K.Kind)) turn (ledger_of K.Kind self.old) }
+        ensures state { ledger_of K.Kind self.new ≡ leaves (machine (kind_of K.Kind)) turn (ledger_of K.Kind self.old) }
         ensures slots { Accounted (is_ok result) self.old self.new }
-        ensures promised { Keeps (kind_of K.Kind) (ledger_of K.Kind self.old) (turn_event result) (ledger_of K.Kind self.new) }
+        ensures promised { Keeps (kind_of K.Kind) (ledger_of K.Kind self.old) (event turn result) (ledger_of K.Kind self.new) }
     {
         self.may_turn()?;
         let month = self.month + 1;

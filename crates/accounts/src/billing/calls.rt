@@ -1,7 +1,11 @@
 ghost use Rattle.std.specs.Prelude.{◌≡◌, length, is_ok};
 ghost use Rattle.ledger.specs.Calls.{answers};
-ghost use Rattle.settlement.specs.Steps.{open_answer, open_after, enter_answer, enter_after, settle_answer, settle_after, settle_lines, turn_answer, turn_after};
-ghost use Rattle.settlement.specs.History.{enter_event, settle_event, turn_event};
+ghost use Rattle.histories.specs.Machines.{gives, leaves};
+ghost use Rattle.histories.specs.Histories.{event};
+ghost use Rattle.settlement.specs.Accounts.{machine};
+ghost use Rattle.settlement.specs.Accounts.Call.{open_for, enter, settle, turn};
+ghost use Rattle.settlement.specs.Steps.{enter_answer, settle_lines};
+ghost use Rattle.settlement.specs.History.{enter_event};
 ghost use Rattle.settlement.specs.Promises.{Keeps, OpenKeeps};
 ghost use Rattle.settlement.specs.Billing.{billing, closed, open_refusal};
 ghost use Rattle.store.specs.Held.{lent, room};
@@ -51,8 +55,8 @@ impl<'a> Billing<'a> {
 
     // Starts anew in a month, with the percentage that caps refunds.
     pub fn open(&mut self, month: u16, percentage: u8) -> Result<(), AccountFault>
-        ensures answer { result ≡ open_answer billing (bill_opening (room self.old.store) month percentage) (billed self.old) }
-        ensures state { billed self.new ≡ open_after billing (bill_opening (room self.old.store) month percentage) (billed self.old) }
+        ensures answer { result ≡ gives (machine billing) (open_for (bill_opening (room self.old.store) month percentage)) (billed self.old) }
+        ensures state { billed self.new ≡ leaves (machine billing) (open_for (bill_opening (room self.old.store) month percentage)) (billed self.old) }
         ensures slots { SameSlots self.old.store self.new.store }
         ensures promised { OpenKeeps billing (billed self.old) (bill_opening (room self.old.store) month percentage) result (billed self.new) }
     {
@@ -67,7 +71,7 @@ impl<'a> Billing<'a> {
     // Enters a month's sums: the deposit into the store, and the bill. A refusal hands the sums back.
     pub fn enter(&mut self, sums: MonthSums) -> Result<(), Returned>
         ensures answer { result ≡ enter_answer billing sums (billed self.old) }
-        ensures state { billed self.new ≡ enter_after billing sums (billed self.old) }
+        ensures state { billed self.new ≡ leaves (machine billing) (enter sums) (billed self.old) }
         ensures slots { Accounted (is_ok result) self.old.store self.new.store }
         ensures promised { Keeps billing (billed self.old) (enter_event sums result) (billed self.new) }
     {
@@ -89,11 +93,11 @@ impl<'a> Billing<'a> {
 
     // Draws the bill on the deposits by the rule, and writes a line for each open deposit.
     pub fn settle<R: Rule>(&mut self, rule: &R, lines: &mut [Line]) -> Result<Payment, AccountFault>
-        ensures answer { result ≡ settle_answer billing (R.Rule.gives rule.now) (length lines.old) (billed self.old) }
-        ensures state { billed self.new ≡ settle_after billing (R.Rule.gives rule.now) (length lines.old) (billed self.old) }
+        ensures answer { result ≡ gives (machine billing) (settle (R.Rule.gives rule.now) (length lines.old)) (billed self.old) }
+        ensures state { billed self.new ≡ leaves (machine billing) (settle (R.Rule.gives rule.now) (length lines.old)) (billed self.old) }
         ensures lines { lines.new ≡ settle_lines billing (R.Rule.gives rule.now) (billed self.old) lines.old }
         ensures slots { Accounted (is_ok result) self.old.store self.new.store }
-        ensures promised { Keeps billing (billed self.old) (settle_event (R.Rule.gives rule.now) (length lines.old) result) (billed self.new) }
+        ensures promised { Keeps billing (billed self.old) (event (settle (R.Rule.gives rule.now) (length lines.old)) result) (billed self.new) }
     {
         let next = self.standing().may_settle(MOST_PORTIONS, lines.len())?;
         let before = self.store.lefts();
@@ -108,10 +112,10 @@ impl<'a> Billing<'a> {
     // Turns the store to the next month: the refunds and losses, summed. The lines are those of a metering account over one store;
     // a trait of both accounts would have no caller that is generic.
     pub fn turn(&mut self) -> Result<(u64, u64), AccountFault>
-        ensures answer { result ≡ turn_answer billing (billed self.old) }
-        ensures state { billed self.new ≡ turn_after billing (billed self.old) }
+        ensures answer { result ≡ gives (machine billing) turn (billed self.old) }
+        ensures state { billed self.new ≡ leaves (machine billing) turn (billed self.old) }
         ensures slots { Accounted (is_ok result) self.old.store self.new.store }
-        ensures promised { Keeps billing (billed self.old) (turn_event result) (billed self.new) }
+        ensures promised { Keeps billing (billed self.old) (event turn result) (billed self.new) }
     {
         let next = self.standing().may_turn()?;
         let ended = turn_store(&mut self.store);

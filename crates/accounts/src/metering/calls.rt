@@ -1,8 +1,12 @@
 ghost use Rattle.std.specs.Prelude.{◌≡◌, length, is_ok};
 ghost use Rattle.settlement.specs.Table.{period_of};
 ghost use Rattle.ledger.specs.Calls.{answers};
-ghost use Rattle.settlement.specs.Steps.{open_answer, open_after, enter_answer, enter_after, settle_answer, settle_after, settle_lines, turn_answer, turn_after};
-ghost use Rattle.settlement.specs.History.{enter_event, settle_event, turn_event};
+ghost use Rattle.histories.specs.Machines.{gives, leaves};
+ghost use Rattle.histories.specs.Histories.{event};
+ghost use Rattle.settlement.specs.Accounts.{machine};
+ghost use Rattle.settlement.specs.Accounts.Call.{open_for, enter, settle, turn};
+ghost use Rattle.settlement.specs.Steps.{enter_answer, settle_lines};
+ghost use Rattle.settlement.specs.History.{enter_event};
 ghost use Rattle.settlement.specs.Promises.{Keeps, OpenKeeps};
 ghost use Rattle.settlement.specs.Metering.{metering, closed, open_refusal, or_monthly};
 ghost use Rattle.store.specs.Held.{lent};
@@ -64,8 +68,8 @@ impl<'a> Metering<'a> {
     // Starts anew in a month, with a power in W and a period of so many months. They are numbers, as a caller has them, and go no
     // further than this call, so they are no struct.
     pub fn open(&mut self, month: u16, power: u32, months: u8) -> Result<(), AccountFault>
-        ensures answer { result ≡ open_answer metering (meter_opening (fewest self.old.meters.stores) month power months) (metered self.old) }
-        ensures state { metered self.new ≡ open_after metering (meter_opening (fewest self.old.meters.stores) month power months) (metered self.old) }
+        ensures answer { result ≡ gives (machine metering) (open_for (meter_opening (fewest self.old.meters.stores) month power months)) (metered self.old) }
+        ensures state { metered self.new ≡ leaves (machine metering) (open_for (meter_opening (fewest self.old.meters.stores) month power months)) (metered self.old) }
         ensures slots { EachSame self.old.meters.stores self.new.meters.stores }
         ensures promised { OpenKeeps metering (metered self.old) (meter_opening (fewest self.old.meters.stores) month power months) result (metered self.new) }
     {
@@ -80,7 +84,7 @@ impl<'a> Metering<'a> {
     // Enters a month's sums: each zone's export into its store, and its import to what is pending. A refusal hands the sums back.
     pub fn enter(&mut self, sums: MonthSums) -> Result<(), Returned>
         ensures answer { result ≡ enter_answer metering sums (metered self.old) }
-        ensures state { metered self.new ≡ enter_after metering sums (metered self.old) }
+        ensures state { metered self.new ≡ leaves (machine metering) (enter sums) (metered self.old) }
         ensures slots { EachAccounted (is_ok result) self.old.meters.stores self.new.meters.stores }
         ensures promised { Keeps metering (metered self.old) (enter_event sums result) (metered self.new) }
     {
@@ -105,11 +109,11 @@ impl<'a> Metering<'a> {
         rule: &R,
         lines: &mut [Line],
     ) -> Result<Settlement, AccountFault>
-        ensures answer { result ≡ settle_answer metering (R.Rule.gives rule.now) (length lines.old) (metered self.old) }
-        ensures state { metered self.new ≡ settle_after metering (R.Rule.gives rule.now) (length lines.old) (metered self.old) }
+        ensures answer { result ≡ gives (machine metering) (settle (R.Rule.gives rule.now) (length lines.old)) (metered self.old) }
+        ensures state { metered self.new ≡ leaves (machine metering) (settle (R.Rule.gives rule.now) (length lines.old)) (metered self.old) }
         ensures lines { lines.new ≡ settle_lines metering (R.Rule.gives rule.now) (metered self.old) lines.old }
         ensures slots { EachAccounted (is_ok result) self.old.meters.stores self.new.meters.stores }
-        ensures promised { Keeps metering (metered self.old) (settle_event (R.Rule.gives rule.now) (length lines.old) result) (metered self.new) }
+        ensures promised { Keeps metering (metered self.old) (event (settle (R.Rule.gives rule.now) (length lines.old)) result) (metered self.new) }
     {
         let next = self.standing().may_settle(FEWEST_LINES, lines.len())?;
         let before = self.meters.lefts();
@@ -128,10 +132,10 @@ impl<'a> Metering<'a> {
 
     // Turns the three stores to the next month: the refunds and losses, summed.
     pub fn turn(&mut self) -> Result<(u64, u64), AccountFault>
-        ensures answer { result ≡ turn_answer metering (metered self.old) }
-        ensures state { metered self.new ≡ turn_after metering (metered self.old) }
+        ensures answer { result ≡ gives (machine metering) turn (metered self.old) }
+        ensures state { metered self.new ≡ leaves (machine metering) turn (metered self.old) }
         ensures slots { EachAccounted (is_ok result) self.old.meters.stores self.new.meters.stores }
-        ensures promised { Keeps metering (metered self.old) (turn_event result) (metered self.new) }
+        ensures promised { Keeps metering (metered self.old) (event turn result) (metered self.new) }
     {
         let next = self.standing().may_turn()?;
         let ended = self.meters.turn();

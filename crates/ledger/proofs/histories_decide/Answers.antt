@@ -1,5 +1,6 @@
-use Rattle.ledger.proofs.Runs.{history_decides}
+use Rattle.histories.proofs.Runs.{history_decides}
+use Rattle.ledger.specs.Steps.{machine}
 use Rattle.ledger.proofs.histories_decide.Goals as goal
 
 pub returns : goal.returns
-returns g c = history_decides
+returns g c kind = history_decides (machine kind)

@@ -1,7 +1,8 @@
 use Rattle.std.proofs.Common.{sym, ap, ◌∙◌, Ok, arith, rules}
 use Rattle.portions.specs.Slots.{row_of}
+use Rattle.ledger.specs.Calls.Call.{enter}
 use Rattle.ledger.proofs.Asked.{enter_met}
-use Rattle.ledger.proofs.Keeps.{keeps_enter}
+use Rattle.ledger.proofs.Keeps.{keeps}
 use Rattle.store.specs.Reading.{kind_of, ledger_of}
 use Rattle.store.proofs.Lawful.{lawful}
 use Rattle.store.proofs.Accepted.{accepted, given}
@@ -11,7 +12,7 @@ use Rattle.store.proofs.Store.enter.Goals as goal
 pub returns-in_err-portion-clause-promised : goal.returns-in_err-portion-clause-promised
 returns-in_err-portion-clause-promised g c =
     let laws = g.met.K.Kind in
-    keeps_enter (kind_of g.K.Kind) (lawful g.K.Kind laws.lasting laws.short laws.within) _ _ _ _ _ (search rules) (search rules)
+    keeps (kind_of g.K.Kind) (lawful g.K.Kind laws.lasting laws.short laws.within) _ _ (enter _ _) tt _ (search rules) (search rules)
 
 pub push-requires-clause-free : goal.push-requires-clause-free
 push-requires-clause-free g c =
@@ -44,4 +45,4 @@ returns-clause-promised g c =
     let none = accepted _ _ _ yes in
     let e = c.push.ensures in
     let after = entered_after s c.args.amount (enter_met c.args.amount l none) c.args.terms _ (c.row.ensures.holds ∙ given _ _ _ yes) c.push.new.self e.slots e.filled none _ c.add_entered.ensures in
-    keeps_enter (kind_of g.K.Kind) (lawful g.K.Kind laws.lasting laws.short laws.within) l _ c.args.amount c.args.terms (Ok tt) (search rules) after
+    keeps (kind_of g.K.Kind) (lawful g.K.Kind laws.lasting laws.short laws.within) l _ (enter c.args.amount c.args.terms) tt (Ok tt) (search rules) after

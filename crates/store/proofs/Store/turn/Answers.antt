@@ -1,6 +1,7 @@
 use Rattle.std.proofs.Common.{sym, subst, rules}
+use Rattle.ledger.specs.Calls.Call.{turn}
 use Rattle.ledger.proofs.Asked.{turn_met}
-use Rattle.ledger.proofs.Keeps.{keeps_turn}
+use Rattle.ledger.proofs.Keeps.{keeps}
 use Rattle.store.specs.Held.{held}
 use Rattle.store.specs.Reading.{kind_of, ledger_of}
 use Rattle.store.specs.Exact.{Exact}
@@ -13,7 +14,7 @@ use Rattle.store.proofs.Store.turn.Goals as goal
 pub returns-in_err-may_turn-clause-promised : goal.returns-in_err-may_turn-clause-promised
 returns-in_err-may_turn-clause-promised g c =
     let laws = g.met.K.Kind in
-    keeps_turn (kind_of g.K.Kind) (lawful g.K.Kind laws.lasting laws.short laws.within) _ _ _ (search rules) (search rules)
+    keeps (kind_of g.K.Kind) (lawful g.K.Kind laws.lasting laws.short laws.within) _ _ turn tt _ (search rules) (search rules)
 
 pub invariant_of-self : goal.invariant_of-self
 invariant_of-self g c =
@@ -37,5 +38,5 @@ returns g c =
       answer = answer;
       state = state;
       slots = search rules;
-      promised = keeps_turn (kind_of g.K.Kind) (lawful g.K.Kind laws.lasting laws.short laws.within) l _ _ answer state;
+      promised = keeps (kind_of g.K.Kind) (lawful g.K.Kind laws.lasting laws.short laws.within) l _ turn tt _ answer state;
     }

@@ -1,9 +1,10 @@
 use Rattle.std.proofs.Common.{rules, ◌≡◌, ◌≤◌, Ok, length, ◌∙◌, arith}
 use Rattle.portions.specs.Listed.{listed}
 use Rattle.store.proofs.Lawful.{lawful_rule}
+use Rattle.settlement.specs.Accounts.Call.{settle}
 use Rattle.settlement.specs.Billing.{billing, payment}
 use Rattle.settlement.proofs.Billed.{billing_keeps}
-use Rattle.settlement.proofs.Keeps.{keeps_settle}
+use Rattle.settlement.proofs.Keeps.{keeps_call}
 use Rattle.accounts.specs.Means.{deposit_kind, deposits}
 use Rattle.accounts.specs.Billed.{billed}
 use Rattle.accounts.proofs.Facts.{few_open}
@@ -15,7 +16,7 @@ returns-in_err-next-clause-promised g c =
     let r = c.args.rule.now in
     let rule = g.R.Rule.gives r in
     let law = lawful_rule rule (g.met.R.Rule.sized r) (g.met.R.Rule.bounded r) (g.met.R.Rule.full r) in
-    keeps_settle billing billing_keeps (billed c.args.self.now) _ rule law (length c.args.lines.now) c.from_residual.result (search rules) (search rules)
+    keeps_call billing billing_keeps (billed c.args.self.now) _ (settle rule (length c.args.lines.now)) law c.from_residual.result (search rules) (search rules)
 
 pub write_lines-count-requires-clause-room : goal.write_lines-count-requires-clause-room
 write_lines-count-requires-clause-room g c =
@@ -35,4 +36,4 @@ returns-clause-promised g c =
     let r = c.args.rule.now in
     let rule = g.R.Rule.gives r in
     let law = lawful_rule rule (g.met.R.Rule.sized r) (g.met.R.Rule.bounded r) (g.met.R.Rule.full r) in
-    keeps_settle billing billing_keeps (billed c.args.self.now) _ rule law (length c.args.lines.now) (Ok c.paid-payment.result) (returns-clause-answer g c) (search rules)
+    keeps_call billing billing_keeps (billed c.args.self.now) _ (settle rule (length c.args.lines.now)) law (Ok c.paid-payment.result) (returns-clause-answer g c) (search rules)

@@ -10,7 +10,7 @@ use Rattle.settlement.specs.Accounts.{refusal}
 use Rattle.settlement.specs.Accounts.Call.{settle}
 use Rattle.settlement.specs.Metering.{metering, settlement, settling_meter}
 use Rattle.settlement.proofs.Metered.{metering_keeps}
-use Rattle.settlement.proofs.Keeps.{keeps_settle}
+use Rattle.settlement.proofs.Keeps.{keeps_call}
 use Rattle.accounts.specs.Metered.{course, metered}
 use Rattle.accounts.proofs.Refused.{refused}
 use Rattle.accounts.proofs.Meters.{answer_is}
@@ -25,7 +25,7 @@ returns-in_err-next-clause-promised g c =
     let law = lawful_rule rule (g.met.R.Rule.sized r) (g.met.R.Rule.bounded r) (g.met.R.Rule.full r) in
     let why = c.in_err-next.ensures ∙ ap (λ s. answers (settle_refusal s 39 lines) Settled) c.standing.ensures in
     let left = refused (refusal metering (settle rule lines) a) _ Settled (settlement rule a) c.from_residual.result (settling_meter rule a) a why c.from_residual.ensures.1 in
-    keeps_settle metering metering_keeps a a rule law lines c.from_residual.result left.0 left.1
+    keeps_call metering metering_keeps a a (settle rule lines) law c.from_residual.result left.0 left.1
 
 pub returns-clause-answer : goal.returns-clause-answer
 returns-clause-answer g c =
@@ -43,4 +43,4 @@ returns-clause-promised g c =
     let rule = g.R.Rule.gives r in
     let law = lawful_rule rule (g.met.R.Rule.sized r) (g.met.R.Rule.bounded r) (g.met.R.Rule.full r) in
     let end = course c.cover_all.new.self in
-    keeps_settle metering metering_keeps (metered c.args.self.now) _ rule law (length c.args.lines.now) (Ok (record { covered = c.zip_with.result; due = end.rests; lines = c.write-count.result })) (returns-clause-answer g c) (search rules)
+    keeps_call metering metering_keeps (metered c.args.self.now) _ (settle rule (length c.args.lines.now)) law (Ok (record { covered = c.zip_with.result; due = end.rests; lines = c.write-count.result })) (returns-clause-answer g c) (search rules)
