@@ -1,6 +1,7 @@
 -- Lemmas on what zones have.
-use Rattle.std.proofs.Common.{◌≡◌, refl}
+use Rattle.std.proofs.Common.{◌≡◌, Bool, true, false, eqb, refl, rules}
 use Rattle.hours.specs.declared.zones.Zone.{Zone}
+use Rattle.hours.specs.Zones.{zone_number}
 use Rattle.settlement.specs.declared.zones.Zones.{Zones}
 use Rattle.settlement.specs.Zones.{of, put, all, each, each_two}
 use Rattle.hours.specs.declared.zones.Zone.TheVariants.{First, Second, Third}
@@ -18,27 +19,15 @@ module _ {X : Type 0} where
 
   -- what relates the new to the old at the zone that is put, and each to itself, relates new to old at every zone
   pub put_relates : (R : X → X → Type 0) → ((x : X) → R x x) → (z : Zone) (x : X) (xs : Zones X) → R x (of z xs) → (other : Zone) → R (of other (put z x xs)) (of other xs)
-  put_relates R same First x xs r First = r
-  put_relates R same First x xs r Second = same xs.two
-  put_relates R same First x xs r Third = same xs.three
-  put_relates R same Second x xs r First = same xs.one
-  put_relates R same Second x xs r Second = r
-  put_relates R same Second x xs r Third = same xs.three
-  put_relates R same Third x xs r First = same xs.one
-  put_relates R same Third x xs r Second = same xs.two
-  put_relates R same Third x xs r Third = r
+  put_relates R same z x xs r other = search rules
 
   -- what holds at every zone, and of what is put, holds after
   pub put_holds : (P : Zone → X → Type 0) (z : Zone) (x : X) (xs : Zones X) → P z x → ((other : Zone) → P other (of other xs)) → (other : Zone) → P other (of other (put z x xs))
-  put_holds P First x xs p ps First = p
-  put_holds P First x xs p ps Second = ps Second
-  put_holds P First x xs p ps Third = ps Third
-  put_holds P Second x xs p ps First = ps First
-  put_holds P Second x xs p ps Second = p
-  put_holds P Second x xs p ps Third = ps Third
-  put_holds P Third x xs p ps First = ps First
-  put_holds P Third x xs p ps Second = ps Second
-  put_holds P Third x xs p ps Third = p
+  put_holds P z x xs p ps other = search rules
+
+  -- what holds of what is put where it is put, and of the others elsewhere, holds at each zone
+  pub put_either : (Q : Bool → Zone → X → Type 0) (z : Zone) (x : X) (xs : Zones X) → Q true z x → ((other : Zone) → Q false other (of other xs)) → (other : Zone) → Q (eqb (zone_number z) (zone_number other)) other (of other (put z x xs))
+  put_either Q z x xs here there other = search rules
 
 pub of_each : {X Y : Type 0} (f : X → Y) (z : Zone) (xs : Zones X) → of z (each f xs) ≡ f (of z xs)
 of_each f First xs = refl

@@ -1,6 +1,6 @@
 -- What one covering of a zone from a store does, and what the whole settlement therefore does.
-use Rattle.std.proofs.Common.{◌≡◌, ℕ, suc, ◌+◌, ◌-◌, ◌*◌, ◌<◌, ◌≤◌, min, ◌⊎◌, List, [], ◌∷◌, ◌++◌, length, refl, ap, ◌∙◌, subst, inl, inr, arith}
-use native.Mathlib.Nat.{lt-div-mul-add, div-le_of_le-mul}
+use Rattle.std.proofs.Common.{◌≡◌, ◌≢◌, ℕ, zero, suc, ◌+◌, ◌-◌, ◌*◌, ◌<◌, ◌≤◌, min, ◌⊎◌, List, [], ◌∷◌, ◌++◌, length, refl, ap, ◌∙◌, subst, inl, inr, arith, add-mul, rules, true, false, cond, leb}
+use native.Mathlib.Nat.{lt-div-mul-add, div-le_of_le-mul, div-mul-le_self, lt_of_mul-lt-mul_right}
 use Rattle.std.proofs.lemmas.Bool.{cases_lt}
 use Rattle.portions.specs.Sums.{sum}
 use Rattle.portions.specs.Portions.{Portion}
@@ -9,13 +9,29 @@ use Rattle.ledger.specs.Ledger.{Ledger, left_in, lefts}
 use Rattle.ledger.specs.Steps.{taking, takings, drawing}
 use Rattle.ledger.proofs.Lists.{sum_lefts, left_taking, within}
 use Rattle.hours.specs.declared.zones.Zone.{Zone}
-use Rattle.hours.specs.declared.zones.Zone.TheVariants.{First, Second, Third}
+use Rattle.hours.specs.Zones.{zone_number}
 use Rattle.settlement.specs.Zones.{of}
-use Rattle.settlement.specs.Metering.{Course, wanted, covered, cover, covers, own_stores, other_stores}
+use Rattle.settlement.specs.Metering.{coefficient_for, Course, wanted, covered, cover, covers, own_stores, other_stores}
 use Rattle.settlement.proofs.ByZone.{of_put, put_relates}
+
+pub coefficient_low : (power : ℕ) → 7 ≤ coefficient_for power
+coefficient_low power = elim (leb power 10000) as (λ b. 7 ≤ cond b 8 7) [ true ↦ omega arith | false ↦ omega arith ]
+
+pub coefficient_high : (power : ℕ) → coefficient_for power ≤ 8
+coefficient_high power = elim (leb power 10000) as (λ b. cond b 8 7 ≤ 8) [ true ↦ omega arith | false ↦ omega arith ]
 
 pub wanted_serves : (c p : ℕ) → 0 < c → 10 * p ≤ wanted c p * c
 wanted_serves c p pos = let h = lt-div-mul-add {a = 10 * p + (c - 1)} {b = c} pos in omega (arith, h)
+
+pub wanted_least : (c p w : ℕ) → 0 < c → 10 * p ≤ w * c → wanted c p ≤ w
+wanted_least c p w pos le =
+    let h = div-mul-le_self (10 * p + (c - 1)) c in
+    let less : wanted c p * c < (w + 1) * c = omega (arith, h, add-mul w 1 c) in
+    omega (arith, lt_of_mul-lt-mul_right c less)
+
+pub wanted_none : (c p : ℕ) → 0 < c → 0 < wanted c p → 0 < p
+wanted_none c zero pos some = absurd (omega (arith, wanted_least c 0 0 pos (omega arith)))
+wanted_none c (suc p) pos some = omega arith
 
 pub full_service : (c p : ℕ) → 0 < c → covered c p (wanted c p) ≡ p
 full_service c p pos = omega (arith, wanted_serves c p pos)
@@ -73,37 +89,34 @@ module _ (rule : Rule) (law : LawfulRule rule) (c : ℕ) (pos : 0 < c) where
   cover_keeps zone from course z s served short =
       omega (arith, cover_lefts zone from course s, served (omega (arith, cover_rests zone from course z, short)))
 
-  -- the pair is in the list
-  abbrev pub In : Zone → Zone → List (Zone × Zone) → Type 0
-  In z s [] = ⊥
-  In z s (pair ∷ pairs) = ((pair.0 ≡ z) × (pair.1 ≡ s)) ⊎ In z s pairs
+-- the pair is in the list
+abbrev pub In : Zone → Zone → List (Zone × Zone) → Type 0
+In z s [] = ⊥
+In z s (pair ∷ pairs) = ((pair.0 ≡ z) × (pair.1 ≡ s)) ⊎ In z s pairs
 
-  pub covers_keeps : (pairs : List (Zone × Zone)) (course : Course) (z s : Zone) → Served z s course → Served z s (covers rule c pairs course)
-  covers_keeps [] course z s served = served
-  covers_keeps (pair ∷ pairs) course z s served = covers_keeps pairs (cover rule c pair.0 pair.1 course) z s (cover_keeps pair.0 pair.1 course z s served)
+-- those of two lists, with the second one's last first
+abbrev pub through : List (Zone × Zone) → List (Zone × Zone) → List (Zone × Zone)
+through done [] = done
+through done (pair ∷ pairs) = through (pair ∷ done) pairs
 
-  pub covers_serves : (pairs : List (Zone × Zone)) (course : Course) (z s : Zone) → In z s pairs → Served z s (covers rule c pairs course)
-  covers_serves [] course z s here = absurd here
-  covers_serves (pair ∷ pairs) course z s (inl e) =
-      let next = cover rule c pair.0 pair.1 course in
-      covers_keeps pairs next z s (subst (λ x. Served z x next) e.1 (subst (λ x. Served x pair.1 next) e.0 (cover_serves pair.0 pair.1 course)))
-  covers_serves (pair ∷ pairs) course z s (inr more) = covers_serves pairs (cover rule c pair.0 pair.1 course) z s more
+-- in a settlement each zone is served from each store
+pub every_pair : (z s : Zone) → In z s (through [] (own_stores ++ other_stores))
+every_pair z s = search rules
 
-  -- each zone is served from each store
-  pub every_pair : (z s : Zone) → In z s (own_stores ++ other_stores)
-  every_pair First First = inl (refl, refl)
-  every_pair Second Second = inr (inl (refl, refl))
-  every_pair Third Third = inr (inr (inl (refl, refl)))
-  every_pair First Second = inr (inr (inr (inl (refl, refl))))
-  every_pair First Third = inr (inr (inr (inr (inl (refl, refl)))))
-  every_pair Second First = inr (inr (inr (inr (inr (inl (refl, refl))))))
-  every_pair Second Third = inr (inr (inr (inr (inr (inr (inl (refl, refl)))))))
-  every_pair Third First = inr (inr (inr (inr (inr (inr (inr (inl (refl, refl))))))))
-  every_pair Third Second = inr (inr (inr (inr (inr (inr (inr (inr (inl (refl, refl)))))))))
+-- what has to come before a zone is served from the store of another
+pub record Ready (done : List (Zone × Zone)) (zone from : Zone) : Type 0 where
+  pub own : In zone zone done
+  pub owner : In from from done
+  pub stores : (k : Zone) → zone_number k ≢ zone_number zone → zone_number k < zone_number from → In zone k done
+  pub zones : (k : Zone) → zone_number k < zone_number zone → In k from done
 
-  pub covers_rests : (pairs : List (Zone × Zone)) (course : Course) (z : Zone) → of z (covers rule c pairs course).rests ≤ of z course.rests
-  covers_rests [] course z = omega arith
-  covers_rests (pair ∷ pairs) course z = omega (arith, covers_rests pairs (cover rule c pair.0 pair.1 course) z, cover_rests pair.0 pair.1 course z)
+abbrev pub AllReady : List (Zone × Zone) → List (Zone × Zone) → Type 0
+AllReady done [] = Unit {0}
+AllReady done (pair ∷ pairs) = (zone_number pair.0 ≢ zone_number pair.1 → Ready done pair.0 pair.1) × AllReady (pair ∷ done) pairs
+
+-- and each in its turn
+pub all_ready : AllReady [] (own_stores ++ other_stores)
+all_ready = search rules
 
 -- A settlement ends no portion and adds none.
 pub length_taking : {T : Type 0} (xs : List ℕ) (ps : List (Portion T)) → length (taking xs ps) ≡ length ps

@@ -1,5 +1,5 @@
 -- Each call keeps the promise of an account: from its answer and the account after it.
-use Rattle.std.proofs.Common.{◌≡◌, ℕ, [], ◌∷◌, Some, None, Option, Result, sym, refl, subst}
+use Rattle.std.proofs.Common.{◌≡◌, ◌∷◌, Some, None, Option, Result, sym, refl, subst}
 use Rattle.faults.specs.declared.AccountFault.{AccountFault}
 use Rattle.histories.specs.Machines.{gives, leaves, becomes}
 use Rattle.histories.specs.Histories.{event, Does}
@@ -7,33 +7,25 @@ use Rattle.histories.specs.Histories.Event.{refused}
 use Rattle.histories.proofs.Keeps as histories
 use Rattle.hours.specs.declared.sums.MonthSums.{MonthSums}
 use Rattle.ledger.specs.Kinds.{LawfulKind}
-use Rattle.ledger.specs.Rules.{Rule}
+use Rattle.ledger.specs.History as store
 use Rattle.ledger.proofs.Promise.{promised}
 use Rattle.settlement.specs.declared.answers.Returned.{Returned}
 use Rattle.settlement.specs.Accounts.{Call, Answer, Follows, Workings, refusal, machine}
 use Rattle.settlement.specs.Accounts.Call.{open_for, enter}
 use Rattle.settlement.specs.Steps.{hands_back, enter_answer}
-use Rattle.settlement.specs.History.{Event, History, Had, in_all, SettledOldestFirst, enter_event, entered, settled}
-use Rattle.settlement.specs.Promises.{Promised, Owed, AllOwed, StoreKeeps, KeepsPromise, Keeps, OpenKeeps}
-use Rattle.settlement.proofs.Trace.{Trace}
+use Rattle.settlement.specs.History.{Event, History, enter_event, entered}
+use Rattle.settlement.specs.Promises.{Promised, StoreKeeps, KeepsPromise, Keeps, OpenKeeps}
+use Rattle.settlement.specs.Inside.{store_calls}
+use Rattle.settlement.proofs.Inside.{entered_is, none_refused, oldest_first}
 
 module _ {O A S Z T : Type 0} (works : Workings O A S Z T) where
-  -- a history of settlements that are each as promised
-  pub all_owed : ((o : O) (h : History O S) (rule : Rule) (lines : ℕ) (answer : S) (a : A) → Had works o (settled rule lines answer ∷ h) a → Owed works h answer a) →
-      (o : O) (h : History O S) → AllOwed works o h
-  all_owed owed o [] = tt
-  all_owed owed o (settled rule lines answer ∷ h) = (owed o h rule lines answer, all_owed owed o h)
-  all_owed owed o (_ ∷ h) = all_owed owed o h
-
-  -- a store with such calls keeps the promise of stores
-  pub store_keeps : LawfulKind works.kind → (o : O) (h : History O S) (a : A) (z : Z) →
-      Trace works.kind (works.own_month o) (SettledOldestFirst (works.own_month o) h) (in_all (λ sums. works.stored sums z) h) (works.store a z) → StoreKeeps works o h a z
-  store_keeps law o h a z t = record {
-    calls = t.calls;
-    promised = promised works.kind law (works.own_month o) t.calls (works.store a z) t.had;
-    entered_is = t.entered_is;
-    none_refused = t.accepted;
-    oldest_first = t.oldest_first;
+  -- a store that has had them keeps the promise of stores
+  pub store_keeps : LawfulKind works.kind → (o : O) (h : History O S) (a : A) (z : Z) → store.Had works.kind (works.own_month o) (store_calls works o z h) (works.store a z) → StoreKeeps works o h a z (store_calls works o z h)
+  store_keeps law o h a z had = record {
+    promised = promised works.kind law (works.own_month o) (store_calls works o z h) (works.store a z) had;
+    entered_is = entered_is works o z h;
+    none_refused = none_refused works o z h;
+    oldest_first = oldest_first works o z (works.own_month o) h;
   }
 
 module _ {O A S Z T : Type 0} (works : Workings O A S Z T) (law : KeepsPromise works) (a a' : A) where

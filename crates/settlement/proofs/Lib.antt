@@ -2,7 +2,9 @@ mod ByZone
 pub mod Tables
 mod Rightly
 pub mod Cover
+pub mod Decided
 mod Trace
+mod Inside
 pub mod Lines
 pub mod Keeps
 pub mod Sums

@@ -3,6 +3,7 @@ use Rattle.std.specs.Prelude.{◌≡◌, ℕ, Bool, List, None, Option}
 use Rattle.faults.specs.declared.AccountFault.{AccountFault}
 use Rattle.histories.specs.Machines.{Machine}
 use Rattle.hours.specs.declared.sums.MonthSums.{MonthSums}
+use Rattle.hours.specs.declared.zones.Zone.{Zone}
 use Rattle.ledger.specs.Kinds.{Kind}
 use Rattle.ledger.specs.Rules.{Rule, LawfulRule}
 use Rattle.ledger.specs.Ledger.{Ledger}
@@ -29,8 +30,21 @@ Follows (open_for opening) = ⊥
 Follows (settle rule lines) = LawfulRule rule
 Follows _ = Unit {0}
 
+-- a draw of a settlement: for a zone, from the store of a zone; what was not covered in its zone before, what it wanted, what it used and what that covered
+pub record Draw (Z : Type 0) : Type 0 where
+  pub zone : Z
+  pub from : Z
+  pub rest : ℕ
+  pub wanted : ℕ
+  pub used : ℕ
+  pub covers : ℕ
+
 -- a sort of account A: opened for O, it has for each of the zones Z a store of portions with the terms T, and its settlements answer S
 pub record Workings (O A S Z T : Type 0) : Type 0 where
+  -- its zones, the place of each among them, and what marks its lines
+  pub zones : List Z
+  pub place : Z → ℕ
+  pub mark : Z → Option Zone
   -- where an account stands, the store of a zone, and what is still to be covered in it
   pub standing : A → Standing
   pub store : A → Z → Ledger T
@@ -43,13 +57,18 @@ pub record Workings (O A S Z T : Type 0) : Type 0 where
   pub own_month : O → ℕ
   pub ends_in : O → ℕ → Bool
   pub opening : O → A
-  -- what a month's sums put into each store, and what they add to the amount to be covered
+  -- what a month's sums put into each store, on which terms, and what they add to the amount to be covered
   pub stored : MonthSums → Z → ℕ
+  pub terms : O → MonthSums → T
   pub demand : MonthSums → Z → ℕ
-  -- what a settlement answers, of that what it covered and left due, and its lines
+  -- how many tenths of what is used are covered, and the draws of a settlement, the newest first
+  pub tenths : O → ℕ
+  pub draws : Rule → A → List (Draw Z)
+  -- what a settlement answers, of that what it covered and left due and how many lines it has, and the lines
   pub settlement : Rule → A → S
   pub covered : S → Z → ℕ
   pub due : S → Z → ℕ
+  pub count : S → ℕ
   pub lines : Rule → A → List Line
   -- what a turn refunds and loses
   pub refunds : A → ℕ

@@ -1,5 +1,5 @@
 -- The billing account: one deposit store, a bill for each month.
-use Rattle.std.specs.Prelude.{ℕ, ◌+◌, ◌-◌, ◌*◌, ◌/◌, Bool, true, false, List, length, None, Option, nat_le, nat_lt}
+use Rattle.std.specs.Prelude.{ℕ, ◌+◌, ◌-◌, ◌*◌, ◌/◌, Bool, true, false, List, [], ◌∷◌, length, None, Option, nat_le, nat_lt}
 use Rattle.faults.specs.declared.AccountFault.{AccountFault}
 use Rattle.faults.specs.declared.AccountFault.TheVariants.{InStore, MonthOutOfRange, PercentageTooHigh}
 use Rattle.faults.specs.declared.StoreFault.TheVariants.{TooFewSlots}
@@ -16,7 +16,7 @@ use Rattle.settlement.specs.declared.states.MonthState.{MonthState}
 use Rattle.settlement.specs.declared.states.MonthState.TheVariants.{Waiting, Entered, Settled}
 use Rattle.settlement.specs.Kinds.{deposit}
 use Rattle.settlement.specs.Lines.{lines_of}
-use Rattle.settlement.specs.Accounts.{Workings}
+use Rattle.settlement.specs.Accounts.{Workings, Draw}
 
 -- what a billing account means: the percentage that caps refunds, the bill to be settled, and the deposits
 pub record BillAccount : Type 0 where
@@ -76,6 +76,10 @@ paid rule b = takings rule b.bill b.store
 abbrev pub settling_bill : Rule → BillAccount → BillAccount
 settling_bill rule b = record { opened = true; percentage = b.percentage; state = Settled; bill = 0; store = drawing (paid rule b) b.store }
 
+-- its one draw
+abbrev pub bill_draw : Rule → BillAccount → Draw (Unit {0})
+bill_draw rule b = record { zone = tt; from = tt; rest = b.bill; wanted = b.bill; used = sum (paid rule b); covers = sum (paid rule b) }
+
 -- its lines
 abbrev pub bill_lines : Rule → BillAccount → List Line
 bill_lines rule b = lines_of None (lefts b.store) (drawing (paid rule b) b.store).portions
@@ -91,6 +95,9 @@ turning_bill b = record { opened = true; percentage = b.percentage; state = Wait
 -- how a billing account works: every month is settled
 abbrev pub billing : Workings BillOpening BillAccount Payment (Unit {0}) ℕ
 billing = record {
+  zones = tt ∷ [];
+  place = λ z. 0;
+  mark = λ z. None;
   standing = λ b. record { opened = b.opened; month = b.store.month; state = b.state; ends = true };
   store = λ b z. b.store;
   pending = λ b z. b.bill;
@@ -101,10 +108,14 @@ billing = record {
   ends_in = λ o m. true;
   opening = opening;
   stored = λ sums z. month_deposit sums;
+  terms = λ o sums. month_cap o.percentage sums;
   demand = λ sums z. month_bill sums;
+  tenths = λ o. 10;
+  draws = λ rule b. bill_draw rule b ∷ [];
   settlement = payment;
   covered = λ p z. p.used;
   due = λ p z. p.due;
+  count = λ p. p.lines;
   lines = bill_lines;
   refunds = λ b. refunds deposit b.store;
   losses = λ b. losses deposit b.store;

@@ -10,6 +10,11 @@ pub mod Steps
 pub mod History
 pub mod Accepted
 pub mod Refusals
+pub mod Inside
+pub mod Settled
+pub mod Decided
+pub mod Took
+pub mod Turned
 pub mod Promises
 pub mod Metering
 pub mod Billing

@@ -17,13 +17,14 @@ use Rattle.settlement.specs.declared.states.MonthState.TheVariants.{Waiting, Ent
 use Rattle.settlement.specs.declared.states.Period.{Period}
 use Rattle.settlement.specs.declared.states.Period.TheVariants.{Monthly}
 use Rattle.hours.specs.declared.zones.Zone.{Zone}
+use Rattle.hours.specs.Zones.{zone_number}
 use Rattle.hours.specs.declared.zones.Zone.TheVariants.{First, Second, Third}
 use Rattle.settlement.specs.declared.zones.Zones.{Zones}
 use Rattle.settlement.specs.Zones.{of, put, all, each, each_two}
 use Rattle.settlement.specs.Kinds.{energy}
 use Rattle.settlement.specs.Table.{ends, period_of}
 use Rattle.settlement.specs.Lines.{lines_of}
-use Rattle.settlement.specs.Accounts.{Workings}
+use Rattle.settlement.specs.Accounts.{Workings, Draw}
 
 -- what a metering account means: the coefficient in tenths, its period, the import pending and the store of each zone
 pub record MeterAccount : Type 0 where
@@ -117,6 +118,22 @@ abbrev pub covers : Rule → ℕ → List (Zone × Zone) → Course → Course
 covers rule c [] course = course
 covers rule c (pair ∷ pairs) course = covers rule c pairs (cover rule c pair.0 pair.1 course)
 
+-- a covering as a draw
+abbrev pub draw_at : Rule → ℕ → Zone → Zone → Course → Draw Zone
+draw_at rule c zone from course = record {
+  zone = zone;
+  from = from;
+  rest = of zone course.rests;
+  wanted = wanted c (of zone course.rests);
+  used = sum (taken rule c zone from course);
+  covers = covered c (of zone course.rests) (sum (taken rule c zone from course));
+}
+
+-- those of several, after others
+abbrev pub draws : Rule → ℕ → List (Zone × Zone) → Course → List (Draw Zone) → List (Draw Zone)
+draws rule c [] course before = before
+draws rule c (pair ∷ pairs) course before = draws rule c pairs (cover rule c pair.0 pair.1 course) (draw_at rule c pair.0 pair.1 course ∷ before)
+
 -- where a settlement begins
 abbrev pub outset : MeterAccount → Course
 outset a = record { stores = a.stores; rests = a.pending }
@@ -163,6 +180,9 @@ over_stores figure a = figure a.stores.one + figure a.stores.two + figure a.stor
 -- how a metering account works; its stores turn together, so each has its month
 abbrev pub metering : Workings MeterOpening MeterAccount Settlement Zone (Unit {0})
 metering = record {
+  zones = First ∷ Second ∷ Third ∷ [];
+  place = zone_number;
+  mark = λ z. Some z;
   standing = λ a. record { opened = a.opened; month = a.stores.one.month; state = a.state; ends = ends a.period a.stores.one.month };
   store = λ a z. of z a.stores;
   pending = λ a z. of z a.pending;
@@ -173,10 +193,14 @@ metering = record {
   ends_in = λ o m. ends (or_monthly (period_of o.months)) m;
   opening = opening;
   stored = λ sums z. of z (split_by_zone sums.totals.export);
+  terms = λ o sums. tt;
   demand = λ sums z. of z (split_by_zone sums.totals.import);
+  tenths = λ o. coefficient_for o.power;
+  draws = λ rule a. draws rule a.coefficient (own_stores ++ other_stores) (outset a) [];
   settlement = settlement;
   covered = λ s z. of z s.covered;
   due = λ s z. of z s.due;
+  count = λ s. s.lines;
   lines = meter_lines;
   refunds = over_stores (refunds energy);
   losses = over_stores (losses energy);

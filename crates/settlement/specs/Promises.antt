@@ -1,9 +1,8 @@
 -- What an account promises after every history, and what a call keeps of it.
-use Rattle.std.specs.Prelude.{◌≡◌, ◌+◌, ◌<◌, ◌≤◌, [], ◌∷◌, length, Result}
+use Rattle.std.specs.Prelude.{◌≡◌, ◌≤◌, length, Result}
 use Rattle.faults.specs.declared.AccountFault.{AccountFault}
 use Rattle.histories.specs.Histories as histories
 use Rattle.ledger.specs.Rules.{Rule}
-use Rattle.ledger.specs.Ledger.{left_in}
 use Rattle.ledger.specs.History as store
 use Rattle.ledger.specs.Totals as store_totals
 use Rattle.ledger.specs.Best.{WentOldestFirst}
@@ -11,26 +10,15 @@ use Rattle.ledger.specs.Promises as store_promise
 use Rattle.settlement.specs.Accepted.{NoneRefused}
 use Rattle.settlement.specs.Accounts.{Workings, machine}
 use Rattle.settlement.specs.Accounts.Call.{open_for}
-use Rattle.settlement.specs.History.{Event, History, Had, in_all, unsettled, SettledOldestFirst, settled}
+use Rattle.settlement.specs.History.{Event, History, Had, in_all, unsettled, SettledOldestFirst}
+use Rattle.settlement.specs.Inside.{store_calls}
+use Rattle.settlement.specs.Took.{AllSettled}
+use Rattle.settlement.specs.Turned.{TurnsTold}
 use Rattle.settlement.specs.Refusals.{stands, AllRightly}
 
 module _ {O A S Z T : Type 0} (works : Workings O A S Z T) where
-  -- a settlement that answers so after the calls h, and leaves the account at a
-  pub record Owed (h : History O S) (answer : S) (a : A) : Type 0 where
-    -- what is due in a zone is what its enters not yet settled asked for, less what was covered
-    pub due_is_not_covered : (z : Z) → works.covered answer z + works.due answer z ≡ unsettled (λ sums. works.demand sums z) h
-    -- something is due in a zone only if nothing is left in any store
-    pub due_only_when_empty : (z : Z) → 0 < works.due answer z → (from : Z) → left_in (works.store a from).portions ≡ 0
-
-  -- every accepted settlement of the history was so
-  abbrev pub AllOwed : O → History O S → Type 0
-  AllOwed o [] = Unit {0}
-  AllOwed o (settled rule lines answer ∷ h) = ((a : A) → Had works o (settled rule lines answer ∷ h) a → Owed h answer a) × AllOwed o h
-  AllOwed o (_ ∷ h) = AllOwed o h
-
-  -- the store of a zone has had calls of its own, and all that a store promises holds of them
-  pub record StoreKeeps (o : O) (h : History O S) (a : A) (z : Z) : Type 0 where
-    pub calls : store.History T
+  -- the store of a zone has had the calls that the account's own calls mean, and no others, and all that a store promises holds of them
+  pub record StoreKeeps (o : O) (h : History O S) (a : A) (z : Z) (calls : store.History T) : Type 0 where
     pub promised : store_promise.Promised works.kind (works.own_month o) calls (works.store a z)
     -- what was entered into it is what the accepted enters had for it
     pub entered_is : store_totals.Entered calls ≡ in_all (λ sums. works.stored sums z) h
@@ -47,10 +35,12 @@ module _ {O A S Z T : Type 0} (works : Workings O A S Z T) where
     pub rightly : AllRightly works o h
     -- what is pending in a zone is what its enters not yet settled asked for
     pub pending_told : (z : Z) → works.pending a z ≡ unsettled (λ sums. works.demand sums z) h
-    -- due is what was not covered, and only when nothing is left
-    pub owed : AllOwed o h
     -- each store inside keeps the promise of stores
-    pub stores : (z : Z) → StoreKeeps o h a z
+    pub stores : (z : Z) → StoreKeeps o h a z (store_calls works o z h)
+    -- what a settlement covers is drawn from the stores, as much as is wanted, and each zone in its turn
+    pub settled : AllSettled works o h
+    -- what the turns refund and lose is what the stores do
+    pub turns_told : TurnsTold works o h
     -- a settlement has a line for each open portion, and never more than it asks room for
     pub few_lines : (rule : Rule) → length (works.lines rule a) ≤ works.fewest_lines
 

@@ -2,6 +2,7 @@
 #![tactic(auto)]
 
 ghost use Rattle.settlement.specs.Promises.{KeepsPromise};
+ghost use Rattle.settlement.specs.Decided.{SettlementsDecided};
 ghost use Rattle.histories.specs.Runs.{CallsHaveHistories, HistoriesDecide, BeginningsAreHistories};
 ghost use Rattle.settlement.specs.Accounts.{machine};
 ghost use Rattle.settlement.specs.Metering.{metering};
@@ -26,6 +27,11 @@ pub fn metering_keeps_promise()
 // A billing account keeps its promise after every history.
 pub fn billing_keeps_promise()
     ensures { KeepsPromise billing }
+{}
+
+// The laws of draws decide what an accepted settlement of a metering account covers.
+pub fn metering_settlements_decided()
+    ensures { SettlementsDecided metering }
 {}
 
 // Every list of calls after an opening has a history.
