@@ -164,6 +164,10 @@ even_found m p e k q = grind (arith, nat_tests)
 pub hour_found : (m p : ℕ) (h : Hour) → p < month_hours m → h ≡ hour_of_place m p → hour_of m p ≡ Some h
 hour_found m p h k q = grind (arith, nat_tests)
 
+-- an hour that is found is that of a place inside the month
+pub hour_inside : (m p : ℕ) (h : Hour) → Some h ≡ hour_of m p → (p < month_hours m) × (h ≡ hour_of_place m p)
+hour_inside m p h q = (grind (arith, nat_tests), grind (arith, nat_tests))
+
 -- an even place that is found is that of a place inside the month
 pub even_inside : (m p e : ℕ) → Some e ≡ even_of m p → (p < month_hours m) × (e ≡ even_at m p)
 even_inside m p e q = (grind (arith, nat_tests), grind (arith, nat_tests))

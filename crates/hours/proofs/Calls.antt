@@ -1,9 +1,9 @@
--- What the two calls that read an hour come to: one asks its source where a price is needed, the other wherever the hour can be read.
-use Rattle.std.proofs.Common.{◌≡◌, ℕ, ◌<◌, ◌≤◌, Bool, true, false, cond, ℤ, pos, Some, Err, Option, Result, sym, ap, ◌∙◌, subst, arith}
+-- What the two calls that read an hour come to.
+use Rattle.std.proofs.Common.{◌≡◌, ℕ, ◌<◌, ◌≤◌, Bool, true, false, cond, ℤ, pos, Some, Err, Option, Result, sym, refl, ap, ◌∙◌, subst, arith}
 use Rattle.std.proofs.lemmas.Bool.Decides.{nat_tests}
 use Rattle.faults.specs.declared.BookFault.{BookFault}
 use Rattle.hours.specs.Bounds.{Bounded}
-use Rattle.hours.specs.Reading.{ReadsIn, RefusedAnyhow, hours_of, joined, needs_price, can_read, unless, reading, answer, after}
+use Rattle.hours.specs.Reading.{ReadsIn, RefusedAnyhow, hours_of, joined, needs_price, unless, reading, answer, after}
 use Rattle.hours.specs.Month.{ReadsOn, HasRead, noted}
 use Rattle.hours.specs.declared.book.Terms.{Terms}
 use Rattle.hours.specs.declared.book.Tally.{Tally}
@@ -33,15 +33,17 @@ refusal_comes t y i e g f r h q = record {
 pub if_asked : {X : Type 0} (b : Bool) (asked left : X) → b ≡ true → asked ≡ cond b asked left
 if_asked b asked left h = sym (ap (λ v. cond v asked left) h)
 
+-- a source that asking leaves as it is, asked or not
+pub if_still : {X : Type 0} (b : Bool) (asked left : X) → asked ≡ left → left ≡ cond b asked left
+if_still true asked left h = sym h
+if_still false asked left h = refl
+
 pub if_unasked : {X : Type 0} (b : Bool) (asked left : X) → b ≡ false → left ≡ cond b asked left
 if_unasked b asked left h = sym (ap (λ v. cond v asked left) h)
 
 -- where a reading is refused at any price, none is needed
 pub not_needed : (t : Terms) (y : Tally) (i e : ℕ) (f : BookFault) → RefusedAnyhow t y i e f → needs_price (hours_of t) y.hours i e ≡ false
 not_needed t y i e f h = let k = h (Some (pos 0)) in grind (arith, nat_tests)
-
-pub not_read : (t : Terms) (y : Tally) (i e : ℕ) (f : BookFault) → RefusedAnyhow t y i e f → can_read (hours_of t) y.hours i e ≡ false
-not_read t y i e f h = let k = h (Some (pos 0)) in grind (arith, nat_tests)
 
 module _ (t : Terms) (y : Tally) (i e z : ℕ) (r : ReadsIn t y i e z) where
   -- where it can be read, one is needed if the export is larger
@@ -50,6 +52,3 @@ module _ (t : Terms) (y : Tally) (i e z : ℕ) (r : ReadsIn t y i e z) where
 
   pub unneeded : e ≤ i → needs_price (hours_of t) y.hours i e ≡ false
   unneeded h = let a = r.import in let b = r.export in let c = r.room in grind (arith, nat_tests)
-
-  pub readable : can_read (hours_of t) y.hours i e ≡ true
-  readable = let a = r.import in let b = r.export in let c = r.room in grind (arith, nat_tests)

@@ -9,7 +9,6 @@ use Rattle.hours.specs.Marks.{zone_by_marks}
 use Rattle.hours.specs.Reading.{hours_of, zone_at}
 use Rattle.hours.specs.Opening.{book_open_refusal, Opened}
 use Rattle.hours.specs.Month.{HourRead, sum_over, taken_in, given_in, costs, Sums, HasRead, Finished}
-use Rattle.hours.specs.Source.{prices_of}
 use Rattle.hours.specs.Whole.{hours_from, MonthSummed, refused_at, refused_from, missing, month_refusal, until_refused, questions_from, month_questions, asked_for}
 use Rattle.hours.specs.declared.prices.PriceSource.{Ghosts}
 use Rattle.hours.specs.declared.book.Reading.{Reading}
@@ -93,29 +92,29 @@ short_month m marks sale prices rs t t' y₀ y fault o e b r s q =
     ∙ sym (refused_at_end m marks sale prices rs (Some HoursMissing) o.accepted b (some_missing (month_hours m) rs l))
 
 -- what a book's calls say of its own month number, said of the month that was opened
-pub finished_month : {S : Type 0} (G : Ghosts S) (s : S) (m : ℕ) (marks : List (List ℕ)) (sale : List ℕ) (rs : List Reading) (t t' : Terms) (y₀ y : Tally) (month : ℕ) (totals : Totals)
-    → Opened m marks sale t y₀ → t' ≡ t → None ≡ refused_from (hours_of t) (prices_of G s t.month.number) 0 rs
-    → HasRead t (hours_from (prices_of G s t.month.number) 0 rs) y → Finished t' y month totals
-    → (None ≡ month_refusal m marks sale (prices_of G s m) rs) × MonthSummed m marks sale (prices_of G s m) rs month totals
+pub finished_month : {S : Type 0} (G : Ghosts S) (s : G.State) (m : ℕ) (marks : List (List ℕ)) (sale : List ℕ) (rs : List Reading) (t t' : Terms) (y₀ y : Tally) (month : ℕ) (totals : Totals)
+    → Opened m marks sale t y₀ → t' ≡ t → None ≡ refused_from (hours_of t) (G.gives s t.month.number) 0 rs
+    → HasRead t (hours_from (G.gives s t.month.number) 0 rs) y → Finished t' y month totals
+    → (None ≡ month_refusal m marks sale (G.gives s m) rs) × MonthSummed m marks sale (G.gives s m) rs month totals
 finished_month G s m marks sale rs t t' y₀ y month totals o e r h f =
-    let r' = subst (λ (n : ℕ). ◌≡◌ {A = Option MonthRefused} None (refused_from (month_hours n) (prices_of G s n) 0 rs)) o.month r in
-    let h' = subst (λ (n : ℕ). HasRead t (hours_from (prices_of G s n) 0 rs) y) o.month h in
-    let w = summed m marks sale (prices_of G s m) rs t t' y₀ y month totals o e h' f in
-    (complete_month m marks sale (prices_of G s m) rs o.accepted r' w.whole, w)
+    let r' = subst (λ (n : ℕ). ◌≡◌ {A = Option MonthRefused} None (refused_from (month_hours n) (G.gives s n) 0 rs)) o.month r in
+    let h' = subst (λ (n : ℕ). HasRead t (hours_from (G.gives s n) 0 rs) y) o.month h in
+    let w = summed m marks sale (G.gives s m) rs t t' y₀ y month totals o e h' f in
+    (complete_month m marks sale (G.gives s m) rs o.accepted r' w.whole, w)
 
-pub unfinished_month : {S : Type 0} (G : Ghosts S) (s : S) (m : ℕ) (marks : List (List ℕ)) (sale : List ℕ) (rs : List Reading) (t t' : Terms) (y₀ y : Tally) (fault : BookFault)
-    → Opened m marks sale t y₀ → t' ≡ t → None ≡ refused_from (hours_of t) (prices_of G s t.month.number) 0 rs
-    → HasRead t (hours_from (prices_of G s t.month.number) 0 rs) y → y.hours < hours_of t' → fault ≡ HoursMissing
-    → Some (record { read = length rs; fault = fault }) ≡ month_refusal m marks sale (prices_of G s m) rs
+pub unfinished_month : {S : Type 0} (G : Ghosts S) (s : G.State) (m : ℕ) (marks : List (List ℕ)) (sale : List ℕ) (rs : List Reading) (t t' : Terms) (y₀ y : Tally) (fault : BookFault)
+    → Opened m marks sale t y₀ → t' ≡ t → None ≡ refused_from (hours_of t) (G.gives s t.month.number) 0 rs
+    → HasRead t (hours_from (G.gives s t.month.number) 0 rs) y → y.hours < hours_of t' → fault ≡ HoursMissing
+    → Some (record { read = length rs; fault = fault }) ≡ month_refusal m marks sale (G.gives s m) rs
 unfinished_month G s m marks sale rs t t' y₀ y fault o e r h l q =
-    short_month m marks sale (prices_of G s m) rs t t' y₀ y fault o e
-    (subst (λ (n : ℕ). ◌≡◌ {A = Option MonthRefused} None (refused_from (month_hours n) (prices_of G s n) 0 rs)) o.month r)
-    (subst (λ (n : ℕ). HasRead t (hours_from (prices_of G s n) 0 rs) y) o.month h) l q
+    short_month m marks sale (G.gives s m) rs t t' y₀ y fault o e
+    (subst (λ (n : ℕ). ◌≡◌ {A = Option MonthRefused} None (refused_from (month_hours n) (G.gives s n) 0 rs)) o.month r)
+    (subst (λ (n : ℕ). HasRead t (hours_from (G.gives s n) 0 rs) y) o.month h) l q
 
-pub asked_month : {S : Type 0} (G : Ghosts S) (s : S) (m : ℕ) (marks : List (List ℕ)) (sale : List ℕ) (rs : List Reading) (t : Terms) (y₀ : Tally) (x : G.State)
+pub asked_month : {S : Type 0} (G : Ghosts S) (s : G.State) (m : ℕ) (marks : List (List ℕ)) (sale : List ℕ) (rs : List Reading) (t : Terms) (y₀ : Tally) (x : G.State)
     → Opened m marks sale t y₀
-    → x ≡ asked_for G t.month.number (questions_from (hours_of t) (prices_of G s t.month.number) 0 rs) (G.state s)
-    → x ≡ asked_for G m (month_questions m marks sale (prices_of G s m) rs) (G.state s)
+    → x ≡ asked_for G t.month.number (questions_from (hours_of t) (G.gives s t.month.number) 0 rs) s
+    → x ≡ asked_for G m (month_questions m marks sale (G.gives s m) rs) s
 asked_month G s m marks sale rs t y₀ x o a =
-    a ∙ ap (λ n. asked_for G n (questions_from (month_hours n) (prices_of G s n) 0 rs) (G.state s)) o.month
-    ∙ ap (λ f. asked_for G m (until_refused f (questions_from (month_hours m) (prices_of G s m) 0 rs)) (G.state s)) (sym o.accepted)
+    a ∙ ap (λ n. asked_for G n (questions_from (month_hours n) (G.gives s n) 0 rs) s) o.month
+    ∙ ap (λ f. asked_for G m (until_refused f (questions_from (month_hours m) (G.gives s m) 0 rs)) s) (sym o.accepted)

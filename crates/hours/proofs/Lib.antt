@@ -1,7 +1,9 @@
+pub mod Balance
 pub mod History
 pub mod Calls
 pub mod Openings
 pub mod Months
 pub mod Closing
 pub mod Summed
-pub mod Rows
+pub mod Packed
+pub mod Sources

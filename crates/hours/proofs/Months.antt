@@ -5,7 +5,7 @@ use Rattle.std.proofs.lemmas.Bool.{false≢true}
 use Rattle.faults.specs.declared.BookFault.{BookFault}
 use Rattle.hours.specs.Reading.{hours_of, joined, read_refusal, needs_price, unless, answer}
 use Rattle.hours.specs.Month.{HourRead, HasRead, ReadsOn}
-use Rattle.hours.specs.Source.{prices_of, next_price, next_reading, next_hour, next_state}
+use Rattle.hours.specs.Source.{next_price, next_reading, next_hour, next_state}
 use Rattle.hours.specs.Whole.{hours_from, refused_at, refused_from, until_refused, and_at, questions_from, asked_for}
 use Rattle.hours.specs.declared.prices.PriceSource.{Ghosts}
 use Rattle.hours.specs.declared.book.Reading.{Reading}
@@ -83,56 +83,56 @@ length_take_within : (rs : List Reading) (i : ℕ) → i ≤ length rs → lengt
 length_take_within rs i h = simp length-take (omega arith)
 
 -- what one call to read ensures
-pub record ReadStep {S : Type 0} (G : Ghosts S) (s : S) (t : Terms) (y : Tally) (imp exp : ℕ) (r : Result (Unit {0}) BookFault) (t' : Terms) (y' : Tally) (s' : S) : Type 0 where
+pub record ReadStep {S : Type 0} (G : Ghosts S) (s : G.State) (t : Terms) (y : Tally) (imp exp : ℕ) (r : Result (Unit {0}) BookFault) (t' : Terms) (y' : Tally) (s' : G.State) : Type 0 where
   pub answered : r ≡ answer (next_reading G s t y imp exp)
   pub terms : t' ≡ t
-  pub asked : G.state s' ≡ next_state G s t y imp exp
+  pub asked : s' ≡ next_state G s t y imp exp
   pub history : ReadsOn t y (next_hour G s t y imp exp) r y'
 
 -- a book of the terms t has read the first i readings, and none of them was refused
-pub record ReadTo {S : Type 0} (G : Ghosts S) (t : Terms) (s₀ : S) (rs : List Reading) (i : ℕ) (t₁ : Terms) (y : Tally) (s : S) : Type 0 where
+pub record ReadTo {S : Type 0} (G : Ghosts S) (t : Terms) (s₀ : G.State) (rs : List Reading) (i : ℕ) (t₁ : Terms) (y : Tally) (s : G.State) : Type 0 where
   pub terms : t₁ ≡ t
-  pub prices : (m p : ℕ) → prices_of G s m p ≡ prices_of G s₀ m p
-  pub history : HasRead t (hours_from (prices_of G s₀ t.month.number) 0 (take i rs)) y
-  pub refusal : refused_from (hours_of t) (prices_of G s₀ t.month.number) 0 rs ≡ refused_from (hours_of t) (prices_of G s₀ t.month.number) i (drop i rs)
-  pub asked : asked_for G t.month.number (questions_from (hours_of t) (prices_of G s₀ t.month.number) 0 rs) (G.state s₀)
-      ≡ asked_for G t.month.number (questions_from (hours_of t) (prices_of G s₀ t.month.number) i (drop i rs)) (G.state s)
+  pub prices : (m p : ℕ) → G.gives s m p ≡ G.gives s₀ m p
+  pub history : HasRead t (hours_from (G.gives s₀ t.month.number) 0 (take i rs)) y
+  pub refusal : refused_from (hours_of t) (G.gives s₀ t.month.number) 0 rs ≡ refused_from (hours_of t) (G.gives s₀ t.month.number) i (drop i rs)
+  pub asked : asked_for G t.month.number (questions_from (hours_of t) (G.gives s₀ t.month.number) 0 rs) s₀
+      ≡ asked_for G t.month.number (questions_from (hours_of t) (G.gives s₀ t.month.number) i (drop i rs)) s
 
 -- the place of the next reading is the number of those read
-place : {S : Type 0} (G : Ghosts S) (t : Terms) (s₀ : S) (rs : List Reading) (i : ℕ) (t₁ : Terms) (y : Tally) (s : S) → ReadTo G t s₀ rs i t₁ y s → i < length rs → y.hours ≡ i
+place : {S : Type 0} (G : Ghosts S) (t : Terms) (s₀ : G.State) (rs : List Reading) (i : ℕ) (t₁ : Terms) (y : Tally) (s : G.State) → ReadTo G t s₀ rs i t₁ y s → i < length rs → y.hours ≡ i
 place G t s₀ rs i t₁ y s w h =
-    w.history.hours ∙ hours_length (prices_of G s₀ t.month.number) 0 (take i rs) ∙ length_take_within rs i (le_of_lt h)
+    w.history.hours ∙ hours_length (G.gives s₀ t.month.number) 0 (take i rs) ∙ length_take_within rs i (le_of_lt h)
 
 -- the refusal of the next reading, by its place in the list
-refusal_of : {S : Type 0} (G : Ghosts S) (t : Terms) (s₀ : S) (rs : List Reading) (i : ℕ) (t₁ : Terms) (y : Tally) (s : S) → ReadTo G t s₀ rs i t₁ y s → i < length rs
+refusal_of : {S : Type 0} (G : Ghosts S) (t : Terms) (s₀ : G.State) (rs : List Reading) (i : ℕ) (t₁ : Terms) (y : Tally) (s : G.State) → ReadTo G t s₀ rs i t₁ y s → i < length rs
     → read_refusal (hours_of t) y.hours (reading_at rs i).import (reading_at rs i).export (next_price G s t y)
-    ≡ read_refusal (hours_of t) i (reading_at rs i).import (reading_at rs i).export (prices_of G s₀ t.month.number i)
+    ≡ read_refusal (hours_of t) i (reading_at rs i).import (reading_at rs i).export (G.gives s₀ t.month.number i)
 refusal_of G t s₀ rs i t₁ y s w h =
     let e = place G t s₀ rs i t₁ y s w h in
     ap (λ g. read_refusal (hours_of t) y.hours (reading_at rs i).import (reading_at rs i).export g) (w.prices t.month.number y.hours)
-    ∙ ap (λ k. read_refusal (hours_of t) k (reading_at rs i).import (reading_at rs i).export (prices_of G s₀ t.month.number k)) e
+    ∙ ap (λ k. read_refusal (hours_of t) k (reading_at rs i).import (reading_at rs i).export (G.gives s₀ t.month.number k)) e
 
 -- the source once the next reading is answered
-state_of : {S : Type 0} (G : Ghosts S) (t : Terms) (s₀ : S) (rs : List Reading) (i : ℕ) (t₁ : Terms) (y : Tally) (s : S) → ReadTo G t s₀ rs i t₁ y s → i < length rs
+state_of : {S : Type 0} (G : Ghosts S) (t : Terms) (s₀ : G.State) (rs : List Reading) (i : ℕ) (t₁ : Terms) (y : Tally) (s : G.State) → ReadTo G t s₀ rs i t₁ y s → i < length rs
     → next_state G s t y (reading_at rs i).import (reading_at rs i).export
-    ≡ cond (needs_price (hours_of t) i (reading_at rs i).import (reading_at rs i).export) (G.asked (G.state s) t.month.number i) (G.state s)
+    ≡ cond (needs_price (hours_of t) i (reading_at rs i).import (reading_at rs i).export) (G.asked s t.month.number i) s
 state_of G t s₀ rs i t₁ y s w h =
-    ap (λ k. cond (needs_price (hours_of t) k (reading_at rs i).import (reading_at rs i).export) (G.asked (G.state s) t.month.number k) (G.state s))
+    ap (λ k. cond (needs_price (hours_of t) k (reading_at rs i).import (reading_at rs i).export) (G.asked s t.month.number k) s)
     (place G t s₀ rs i t₁ y s w h)
 
 -- the questions that are left after the reading at place i, whose refusal is f
-asked_on : {S : Type 0} (G : Ghosts S) (t : Terms) (s₀ : S) (rs : List Reading) (i : ℕ) (t₁ : Terms) (y : Tally) (s s' : S) (f : Option BookFault) → ReadTo G t s₀ rs i t₁ y s → i < length rs
-    → read_refusal (hours_of t) i (reading_at rs i).import (reading_at rs i).export (prices_of G s₀ t.month.number i) ≡ f
-    → G.state s' ≡ next_state G s t y (reading_at rs i).import (reading_at rs i).export
-    → asked_for G t.month.number (questions_from (hours_of t) (prices_of G s₀ t.month.number) 0 rs) (G.state s₀)
-    ≡ asked_for G t.month.number (until_refused f (questions_from (hours_of t) (prices_of G s₀ t.month.number) (i + 1) (drop (i + 1) rs))) (G.state s')
+asked_on : {S : Type 0} (G : Ghosts S) (t : Terms) (s₀ : G.State) (rs : List Reading) (i : ℕ) (t₁ : Terms) (y : Tally) (s s' : G.State) (f : Option BookFault) → ReadTo G t s₀ rs i t₁ y s → i < length rs
+    → read_refusal (hours_of t) i (reading_at rs i).import (reading_at rs i).export (G.gives s₀ t.month.number i) ≡ f
+    → s' ≡ next_state G s t y (reading_at rs i).import (reading_at rs i).export
+    → asked_for G t.month.number (questions_from (hours_of t) (G.gives s₀ t.month.number) 0 rs) s₀
+    ≡ asked_for G t.month.number (until_refused f (questions_from (hours_of t) (G.gives s₀ t.month.number) (i + 1) (drop (i + 1) rs))) (s')
 asked_on G t s₀ rs i t₁ y s s' f w h e a =
     let m = t.month.number in
-    let ks = until_refused f (questions_from (hours_of t) (prices_of G s₀ m) (i + 1) (drop (i + 1) rs)) in
+    let ks = until_refused f (questions_from (hours_of t) (G.gives s₀ m) (i + 1) (drop (i + 1) rs)) in
     let b = needs_price (hours_of t) i (reading_at rs i).import (reading_at rs i).export in
     w.asked
-    ∙ ap (λ q. asked_for G m q (G.state s)) (questions_then (hours_of t) (prices_of G s₀ m) rs i f h e)
-    ∙ asked_first G m i b ks (G.state s)
+    ∙ ap (λ q. asked_for G m q s) (questions_then (hours_of t) (G.gives s₀ m) rs i f h e)
+    ∙ asked_first G m i b ks s
     ∙ ap (λ x. asked_for G m ks x) (sym (a ∙ state_of G t s₀ rs i t₁ y s w h))
 
 by_cond : {X : Type 0} (b : Bool) (P : X → Type 0) (x y : X) → P x → P y → P (cond b x y)
@@ -141,11 +141,11 @@ by_cond false P x y p q = q
 
 -- asking changes no later answer
 still : {S : Type 0} (G : Ghosts S) → ((s : G.State) (m p n q : ℕ) → G.gives (G.asked s m p) n q ≡ G.gives s n q)
-    → (s s' : S) (t : Terms) (y : Tally) (imp exp : ℕ) → G.state s' ≡ next_state G s t y imp exp → (m p : ℕ) → prices_of G s' m p ≡ prices_of G s m p
+    → (s s' : G.State) (t : Terms) (y : Tally) (imp exp : ℕ) → s' ≡ next_state G s t y imp exp → (m p : ℕ) → G.gives s' m p ≡ G.gives s m p
 still G steady s s' t y imp exp a m p =
     ap (λ x. G.gives x m p) a
-    ∙ by_cond (needs_price (hours_of t) y.hours imp exp) (λ x. G.gives x m p ≡ G.gives (G.state s) m p) _ _
-    (steady (G.state s) t.month.number y.hours m p) refl
+    ∙ by_cond (needs_price (hours_of t) y.hours imp exp) (λ x. G.gives x m p ≡ G.gives s m p) _ _
+    (steady s t.month.number y.hours m p) refl
 
 hours_more : (prices : ℕ → Option ℤ) (rs : List Reading) (i : ℕ) → i < length rs
     → hours_from prices 0 (take (i + 1) rs) ≡ hours_from prices 0 (take i rs) ++ ((record { import = (reading_at rs i).import; export = (reading_at rs i).export; price = prices i }) ∷ [])
@@ -158,10 +158,10 @@ hours_more prices rs i h =
 
 -- one reading more is accepted
 pub read_to_more : {S : Type 0} (G : Ghosts S) → ((s : G.State) (m p n q : ℕ) → G.gives (G.asked s m p) n q ≡ G.gives s n q)
-    → (t : Terms) (s₀ : S) (rs : List Reading) (i : ℕ) (t₁ t' : Terms) (y y' : Tally) (s s' : S) → ReadTo G t s₀ rs i t₁ y s → i < length rs
+    → (t : Terms) (s₀ : G.State) (rs : List Reading) (i : ℕ) (t₁ t' : Terms) (y y' : Tally) (s s' : G.State) → ReadTo G t s₀ rs i t₁ y s → i < length rs
     → ReadStep G s t₁ y (reading_at rs i).import (reading_at rs i).export (Ok tt) t' y' s' → ReadTo G t s₀ rs (i + 1) t' y' s'
 read_to_more {S} G steady t s₀ rs i t₁ t' y y' s s' w h c₁ =
-    let P = prices_of G s₀ t.month.number in
+    let P = G.gives s₀ t.month.number in
     let imp = (reading_at rs i).import in
     let exp = (reading_at rs i).export in
     let c : ReadStep G s t y imp exp (Ok tt) t' y' s' = subst (λ (u : Terms). ReadStep G s u y imp exp (Ok tt) t' y' s') w.terms c₁ in
@@ -179,12 +179,12 @@ read_to_more {S} G steady t s₀ rs i t₁ t' y y' s s' w h c₁ =
     }
 
 -- what a list of readings comes to: its first refusal, and the questions asked up to it
-pub record ReadOver {S : Type 0} (G : Ghosts S) (t : Terms) (s₀ : S) (rs : List Reading) (r : Option MonthRefused) (t' : Terms) (s' : S) : Type 0 where
-  pub refusal : r ≡ refused_from (hours_of t) (prices_of G s₀ t.month.number) 0 rs
+pub record ReadOver {S : Type 0} (G : Ghosts S) (t : Terms) (s₀ : G.State) (rs : List Reading) (r : Option MonthRefused) (t' : Terms) (s' : G.State) : Type 0 where
+  pub refusal : r ≡ refused_from (hours_of t) (G.gives s₀ t.month.number) 0 rs
   pub terms : t' ≡ t
-  pub asked : G.state s' ≡ asked_for G t.month.number (questions_from (hours_of t) (prices_of G s₀ t.month.number) 0 rs) (G.state s₀)
+  pub asked : s' ≡ asked_for G t.month.number (questions_from (hours_of t) (G.gives s₀ t.month.number) 0 rs) s₀
 
-pub read_to_refused : {S : Type 0} (G : Ghosts S) (t : Terms) (s₀ : S) (rs : List Reading) (i : ℕ) (f : BookFault) (t₁ t' : Terms) (y y' : Tally) (s s' : S)
+pub read_to_refused : {S : Type 0} (G : Ghosts S) (t : Terms) (s₀ : G.State) (rs : List Reading) (i : ℕ) (f : BookFault) (t₁ t' : Terms) (y y' : Tally) (s s' : G.State)
     → ReadTo G t s₀ rs i t₁ y s → i < length rs
     → ReadStep G s t₁ y (reading_at rs i).import (reading_at rs i).export (Err f) t' y' s'
     → ReadOver G t s₀ rs (Some (record { read = i; fault = f })) t' s'
@@ -192,10 +192,10 @@ read_to_refused {S} G t s₀ rs i f t₁ t' y y' s s' w h c₁ =
     let imp = (reading_at rs i).import in
     let exp = (reading_at rs i).export in
     let c : ReadStep G s t y imp exp (Err f) t' y' s' = subst (λ (u : Terms). ReadStep G s u y imp exp (Err f) t' y' s') w.terms c₁ in
-    let n : read_refusal (hours_of t) i imp exp (prices_of G s₀ t.month.number i) ≡ Some f =
+    let n : read_refusal (hours_of t) i imp exp (G.gives s₀ t.month.number i) ≡ Some f =
     sym (refusal_of G t s₀ rs i t₁ y s w h) ∙ was_refused _ f (answered _ (joined t y imp exp (next_price G s t y)) (Err f) c.answered) in
     record {
-      refusal = sym (w.refusal ∙ refused_then (hours_of t) (prices_of G s₀ t.month.number) rs i (Some f) h n);
+      refusal = sym (w.refusal ∙ refused_then (hours_of t) (G.gives s₀ t.month.number) rs i (Some f) h n);
       terms = c.terms;
       asked = sym (asked_on G t s₀ rs i t₁ y s s' (Some f) w h n c.asked);
     }

@@ -1,5 +1,6 @@
 pub mod Price
 pub mod Zones
+pub mod Packed
 pub mod Marks
 pub mod Bounds
 pub mod Reading

@@ -1,11 +1,12 @@
 -- Zone marks: the zone of each clock hour, 24 of a working day and 24 of a Saturday or Sunday.
-use Rattle.std.specs.Prelude.{◌≡◌, ℕ, ◌<◌, Bool, false, cond, List, [], length, Result, MatchResult, map, nat_le, slice_index, slice_index_or}
+use Rattle.std.specs.Prelude.{◌≡◌, ℕ, Bool, false, cond, List, [], ◌∷◌, Result, MatchResult, map, slice_index, slice_index_or}
 use Rattle.std.specs.List.{list_all}
-use Rattle.calendar.specs.Calendar.{weekday}
 use Rattle.calendar.specs.Hour.{hour_of_place}
 use Rattle.faults.specs.declared.BookFault.{BookFault}
 use Rattle.faults.specs.declared.BookFault.TheVariants.{MarkOutOfRange}
 use Rattle.hours.specs.Zones.{names_zone, zone_number}
+use Rattle.hours.specs.Packed.{zone_in, zones_in}
+use Rattle.hours.specs.declared.marks.Marks.{Marks}
 use Rattle.hours.specs.declared.zones.Zone.{Zone}
 
 -- every mark of a row names a zone
@@ -24,10 +25,10 @@ marks_of zones = map zone_number zones
 abbrev pub RowNamed : List ℕ → Result (List Zone) BookFault → Type 0
 RowNamed row r = MatchResult r (λ zones. marks_of zones ≡ row) (λ fault. (fault ≡ MarkOutOfRange) × (each_zone row ≡ false))
 
--- the row of day d of month m: the weekend's on a Saturday or Sunday, else the working days'
-abbrev pub row_of : ℕ → List Zone → List Zone → ℕ → List Zone
-row_of m working weekend d = cond (nat_le 5 (weekday m d)) weekend working
+-- the zone that marks have for a clock hour of a working day, or of a Saturday or Sunday
+abbrev pub zone_kept : Marks → Bool → ℕ → Zone
+zone_kept m weekend clock = zone_in (cond weekend m.weekend m.working) clock
 
--- each day has its row, of 24 zones
-abbrev pub RowsOf : ℕ → List Zone → List Zone → List (List Zone) → Type 0
-RowsOf m working weekend rows = (d : ℕ) → d < 31 → (length (slice_index_or rows d []) ≡ 24) × (slice_index_or rows d [] ≡ row_of m working weekend d)
+-- the two rows that marks are of: of a working day, and of a Saturday or Sunday
+abbrev pub rows_of : Marks → List (List ℕ)
+rows_of m = marks_of (zones_in m.working) ∷ marks_of (zones_in m.weekend) ∷ []

@@ -1,5 +1,7 @@
 -- What a price source gives.
-use Rattle.std.specs.Prelude.{ℕ, ◌<◌, Bool, true, false, ◌&&◌, List, length, ℤ, pos, negsuc, ◌≤ℤ◌, Some, None, Option, ◌==◌, nat_lt, slice_index_or}
+use Rattle.std.specs.Prelude.{ℕ, ◌<◌, Bool, true, false, ◌&&◌, List, length, ℤ, pos, negsuc, ◌≤ℤ◌, Some, None, Option, ◌≡◌, ◌==◌, nat_lt, slice_index_or, refl}
+use Rattle.std.specs.Option.{option_map}
+use Rattle.std.proofs.Common.{ap, ◌∙◌}
 
 -- a price in gr per MWh, from −1,000,000 to 1,000,000
 abbrev pub Priced : ℤ → Type 0
@@ -46,3 +48,13 @@ positive (negsuc n) = 0
 abbrev pub worth : Option ℤ → ℕ
 worth None = 0
 worth (Some price) = positive price
+
+-- a source over another is as it was where asking leaves each as it is
+pub still_pair : {A B : Type 0} (a : A) (b : B) (a' : A) (b' : B) (g : Option ℤ) → a' ≡ a → b' ≡ b → ◌≡◌ {A = A × B} (a', unless_some g b b') (a, b)
+still_pair a b a' b' (Some z) p q = ap (λ x. (x, b)) p
+still_pair a b a' b' None p q = ap (λ x. (x, b')) p ∙ ap (λ y. (a, y)) q
+
+-- so is one that may be missing
+pub still_option : {A : Type 0} (f : A → A) → ((a : A) → f a ≡ a) → (o : Option A) → option_map f o ≡ o
+still_option f e (Some a) = ap Some (e a)
+still_option f e None = refl

@@ -1,11 +1,11 @@
 -- What reading an hour makes of a book.
-use Rattle.std.specs.Prelude.{◌≡◌, ℕ, ◌+◌, ◌-◌, ◌*◌, ◌<◌, ◌≤◌, Bool, false, cond, ◌||◌, List, [], ◌∷◌, ℤ, Some, None, Ok, Err, Option, Result, nat_le, nat_lt, slice_index, slice_index_or, slice_set}
+use Rattle.std.specs.Prelude.{◌≡◌, ℕ, ◌+◌, ◌-◌, ◌*◌, ◌<◌, ◌≤◌, Bool, false, cond, ◌||◌, List, [], ◌∷◌, ℤ, Some, None, Ok, Err, Option, Result, nat_le, nat_lt, slice_index, slice_set}
 use Rattle.calendar.specs.Hour.{hour_of_place, month_hours}
 use Rattle.faults.specs.declared.BookFault.{BookFault}
 use Rattle.faults.specs.declared.BookFault.TheVariants.{ReadingTooLarge, BookComplete, NoPrice}
+use Rattle.hours.specs.Marks.{zone_kept}
 use Rattle.hours.specs.Price.{worth}
 use Rattle.hours.specs.Zones.{zone_number}
-use Rattle.hours.specs.declared.zones.Zone.TheVariants.{First}
 use Rattle.hours.specs.declared.book.Terms.{Terms}
 use Rattle.hours.specs.declared.book.Tally.{Tally}
 
@@ -15,8 +15,7 @@ hours_of t = month_hours t.month.number
 
 -- the zone of the hour at place p
 abbrev pub zone_at : Terms → ℕ → ℕ
-zone_at t p =
-    zone_number (slice_index_or (cond (hour_of_place t.month.number p).weekend t.weekend t.working) (hour_of_place t.month.number p).clock First)
+zone_at t p = zone_number (zone_kept t.marks (hour_of_place t.month.number p).weekend (hour_of_place t.month.number p).clock)
 
 -- the sale price of zone z, 1 to 3
 abbrev pub sale_price : List ℕ → ℕ → ℕ
@@ -72,10 +71,6 @@ pub record ReadsIn (t : Terms) (y : Tally) (i e z : ℕ) : Type 0 where
   pub export : e ≤ 100000
   pub room : y.hours < hours_of t
   pub zone : z ≡ zone_at t y.hours
-
--- the hour at place p of a month of so many hours can be read, with a price or without
-abbrev pub can_read : ℕ → ℕ → ℕ → ℕ → Bool
-can_read hours p i e = cond (too_large i e) false (nat_lt p hours)
 
 -- the reading is refused as the next hour, whatever the price there
 abbrev pub RefusedAnyhow : Terms → Tally → ℕ → ℕ → BookFault → Type 0

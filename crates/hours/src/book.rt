@@ -2,10 +2,9 @@
 ghost use Rattle.std.specs.Prelude.{◌≤◌};
 ghost use Rattle.calendar.specs.Hour.{month_hours};
 ghost use Rattle.hours.specs.Bounds.{Bounded, Cheap};
-ghost use Rattle.hours.specs.Marks.{RowsOf};
 
+use crate::marks::Marks;
 use crate::sums::Totals;
-use crate::zones::Zone;
 use calendar::Month;
 use faults::BookFault;
 use std::marker::Model;
@@ -27,18 +26,14 @@ pub struct Tariff {
     pub sale: [u32; 3],
 }
 
-// What a book is opened with: the month, the zone of each clock hour of a working day and of a Saturday or Sunday, and the sale
-// prices; and the row of zones of each day, laid out so that an hour's zone is found by its even place alone.
+// What a book is opened with: the month, the zone marks and the sale prices.
 #[derive(Clone, Copy)]
 pub struct Terms {
     pub(crate) month: Month,
-    pub(crate) working: [Zone; 24],
-    pub(crate) weekend: [Zone; 24],
+    pub(crate) marks: Marks,
     pub(crate) sale: [u32; 3],
-    pub(crate) rows: [[Zone; 24]; 31],
     ghost dated: { 47 ≤ month.number },
     ghost cheap: { Cheap sale },
-    ghost zoned: { RowsOf month.number working weekend rows },
 }
 
 // What was read so far: the hours, and their totals.

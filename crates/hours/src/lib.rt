@@ -9,8 +9,9 @@ mod whole;
 mod zones;
 
 pub use book::{Book, Reading, Tally, Tariff, Terms, Unfinished};
-pub use marks::all_zones;
-pub use prices::{HourPrices, MonthPrice, PriceSource, StandIn};
+pub use marks::Marks;
+pub use marks::calls::all_zones;
+pub use prices::{HourPrices, MonthPrice, PriceSource, StandIn, StillSource};
 pub use sums::{Energies, MonthSums, Totals};
 pub use whole::{MonthRefused, sum_month};
 pub use zones::Zone;

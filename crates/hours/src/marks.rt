@@ -1,21 +1,13 @@
-// Rows of zone marks, one for each clock hour.
-ghost use Rattle.std.specs.Prelude.{◌≡◌, IfOk, length};
-ghost use Rattle.hours.specs.Marks.{RowNamed, each_zone};
+// Zone marks: the zone of each clock hour, of a working day and of a Saturday or Sunday.
+ghost use Rattle.hours.specs.Packed.{Coded};
 
-use crate::zones::Zone;
-use faults::BookFault;
+pub(crate) mod calls;
 
-// Every mark of the row names a zone.
-pub fn all_zones(row: &[u8; 24]) -> bool
-    ensures { result ≡ each_zone row.now }
-{
-    row.iter().all(|mark| (1..=3).contains(mark))
-}
-
-// The zones that a row of marks names; 11 where a mark names none.
-pub(crate) fn zones_of(row: &[u8; 24]) -> Result<[Zone; 24], BookFault>
-    ensures named { RowNamed row.now result }
-    ensures sized { IfOk result (λ zones. length zones ≡ 24) }
-{
-    row.try_map(|mark| Zone::try_from(mark))
+// The zones of the clock hours of a working day and of a Saturday or Sunday, packed: two bits each, the first hour's lowest.
+#[derive(Clone, Copy)]
+pub struct Marks {
+    pub(crate) working: u64,
+    pub(crate) weekend: u64,
+    ghost working_coded: { Coded working },
+    ghost weekend_coded: { Coded weekend },
 }

@@ -1,7 +1,7 @@
 // Sources of prices, in gr per MWh.
 ghost use Rattle.std.specs.Prelude.{◌≡◌, ℕ, List, ℤ, Ok, Err, Decides, Option};
 ghost use Rattle.std.specs.Option.{option_map, option_or};
-ghost use Rattle.hours.specs.Price.{AllPriced, Priced, Ranged, from_some, hour_gives, month_gives, unless_some};
+ghost use Rattle.hours.specs.Price.{AllPriced, Priced, Ranged, from_some, hour_gives, month_gives, still_option, still_pair, unless_some};
 ghost use Rattle.std.proofs.Common.{rules};
 
 use faults::BookFault;
@@ -25,6 +25,11 @@ pub trait PriceSource {
     ghost ranged: { (x : Self) (m p : ℕ) → Ranged (gives (state x) m p) };
 
     ghost steady: { (s : State) (m p n q : ℕ) → gives (asked s m p) n q ≡ gives s n q };
+}
+
+// A source that asking leaves as it is.
+pub trait StillSource: PriceSource {
+    ghost still: { (s : Self.State) (m p : ℕ) → Self.asked s m p ≡ s };
 }
 
 fn in_range(price: i32) -> bool
@@ -69,6 +74,10 @@ impl PriceSource for MonthPrice {
     fn ask(&mut self, month: u16, _place: u16) -> Option<i32> {
         (month == self.month).then_some(self.price)
     }
+}
+
+impl StillSource for MonthPrice {
+    ghost still = { Prim.search rules };
 }
 
 // Hourly prices for one month, from its first hour on, and none past their end. The list is owned, since a source may stay
@@ -119,6 +128,10 @@ impl PriceSource for HourPrices {
     }
 }
 
+impl StillSource for HourPrices {
+    ghost still = { Prim.search rules };
+}
+
 // One source over another: the lower is asked, and answers, where the upper has no price.
 #[derive(Drop)]
 pub struct StandIn<U, L> {
@@ -148,6 +161,10 @@ impl<U: PriceSource, L: PriceSource> PriceSource for StandIn<U, L> {
     }
 }
 
+impl<U: StillSource, L: StillSource> StillSource for StandIn<U, L> {
+    ghost still = { λ s m p. still_pair s.0 s.1 _ _ (U.PriceSource.gives s.0 m p) (U.StillSource.still s.0 m p) (L.StillSource.still s.1 m p) };
+}
+
 // A source that may be missing: where there is no source there is no price.
 impl<S: PriceSource> PriceSource for Option<S> {
     ghost State = { Option S.PriceSource.State };
@@ -165,4 +182,8 @@ impl<S: PriceSource> PriceSource for Option<S> {
     fn ask(&mut self, month: u16, place: u16) -> Option<i32> {
         self.as_mut()?.ask(month, place)
     }
+}
+
+impl<S: StillSource> StillSource for Option<S> {
+    ghost still = { λ s m p. still_option (λ a. S.PriceSource.asked a m p) (λ a. S.StillSource.still a m p) s };
 }

@@ -15,6 +15,9 @@ pub struct Hour {
     pub weekend: bool,
 }
 
+// The days of nine weeks from a Monday on, a bit for each: it is set for Saturdays and Sundays.
+const DAYS_OFF: u64 = 0x60c1_8306_0c18_3060;
+
 impl Month {
     // The month of a number, with all that it keeps.
     #[tactic(auto, using(crate::proofs::Hours::total, crate::proofs::Hours::total_bounds))]
@@ -76,6 +79,14 @@ impl Month {
         (u16::from(self.first) + u16::from(day)) % 7 >= 5
     }
 
+    // A day of the month is a Saturday or a Sunday: `is_weekend` without a division, for the hours that are looked up.
+    fn is_day_off(&self, day: u8) -> bool
+        requires { day < 31 }
+        ensures { result ≡ nat_le 5 (weekday self.now.number day) }
+    {
+        DAYS_OFF >> self.first >> day & 1 == 1
+    }
+
     // A place as if every day had 24 hours.
     fn even_inside(&self, place: u16) -> u16
         requires { place ≤ 745 }
@@ -111,7 +122,7 @@ impl Month {
         Some(Hour {
             day,
             clock: (even % 24) as u8,
-            weekend: self.is_weekend(day),
+            weekend: self.is_day_off(day),
         })
     }
 }

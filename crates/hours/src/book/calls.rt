@@ -1,27 +1,25 @@
 // Opening a book, reading hours into it and finishing it.
-ghost use Rattle.std.specs.Prelude.{◌≡◌, ◌+◌, ◌-◌, ◌*◌, ◌<◌, ◌≤◌, true, List, [], IfOk, Some, None, Ok, Err};
+ghost use Rattle.std.specs.Prelude.{◌≡◌, ◌+◌, ◌*◌, ◌<◌, ◌≤◌, true, List, [], IfOk, Some, None, Ok, Err, pos, neg_ℤ, ◌-ℤ◌};
 ghost use Rattle.hours.specs.Price.{Ranged, positive};
 ghost use Rattle.hours.specs.Zones.{zone_number};
 ghost use Rattle.hours.specs.Bounds.{Bounded, Cheap};
-ghost use Rattle.hours.specs.Marks.{RowsOf};
 ghost use Rattle.hours.specs.Month.{Finished, HasRead, HourRead, MonthRead, ReadsOn};
 ghost use Rattle.hours.specs.Opening.{Opened, each_cheap, book_open_refusal};
 ghost use Rattle.hours.specs.Reading.{after, answer, grown, hours_of, nothing, reading as read_with, ReadsIn, RefusedAnyhow, too_large, zone_at};
-ghost use Rattle.hours.specs.Source.{next_hour, next_reading, next_state, state_asked};
+ghost use Rattle.hours.specs.Source.{next_hour, next_reading, next_state};
 
 use crate::book::{Book, Reading, Tally, Tariff, Terms, Unfinished};
-use crate::marks::zones_of;
-use crate::prices::PriceSource;
+use crate::marks::Marks;
+use crate::prices::{PriceSource, StillSource};
 use crate::sums::{MonthSums, Totals};
 use crate::zones::Zone;
 use calendar::Month;
 use faults::BookFault;
 
-// What an hour took from the grid or gave to it.
+// Import − export of an hour, in Wh: what it took from the grid, or, where it is negative, gave to it.
 #[derive(Clone, Copy)]
 struct Balance {
-    taken: u32,
-    given: u32,
+    net: i32,
 }
 
 impl Reading {
@@ -32,15 +30,31 @@ impl Reading {
         self.import > 100_000 || self.export > 100_000
     }
 
-    // The difference import − export, a signed number, split by its sign: one of the two is 0.
+    // The difference import − export.
     fn balance(self) -> Balance
-        ensures taken { result.taken ≡ self.import - self.export }
-        ensures given { result.given ≡ self.export - self.import }
+        requires import { self.import ≤ 100000 }
+        requires export { self.export ≤ 100000 }
+        ensures { result.net ≡ pos self.import -ℤ pos self.export }
     {
         Balance {
-            taken: self.import.saturating_sub(self.export),
-            given: self.export.saturating_sub(self.import),
+            net: self.import as i32 - self.export as i32,
         }
+    }
+}
+
+impl Balance {
+    // The energy taken: a negative difference counts as 0.
+    fn taken(self) -> u32
+        ensures { result ≡ positive self.net }
+    {
+        self.net.max(0) as u32
+    }
+
+    // The energy given: a positive one does.
+    fn given(self) -> u32
+        ensures { result ≡ positive (neg_ℤ self.net) }
+    {
+        self.net.min(0).unsigned_abs()
     }
 }
 
@@ -70,26 +84,13 @@ fn all_cheap(sale: &[u32; 3]) -> bool
     sale.iter().all(|price| *price <= 1_000_000)
 }
 
-// The row of each day of a month: the weekend's on a Saturday or Sunday, else the working days'.
-fn rows_of(month: &Month, working: [Zone; 24], weekend: [Zone; 24]) -> [[Zone; 24]; 31]
-    ensures { RowsOf month.now.number working weekend result }
-{
-    let mut rows = [working; 31];
-    for day in 0..31 {
-        if month.is_weekend(day) {
-            rows[usize::from(day)] = weekend;
-        }
-    }
-    rows
-}
-
 impl Terms {
     // The zone of the hour at a place; none past the month's end.
     fn zone_at(&self, place: u16) -> Option<Zone>
         ensures { elim result [ Some z ↦ (place < hours_of self.now) × (zone_number z ≡ zone_at self.now place) | None ↦ hours_of self.now ≤ place ] }
     {
-        let even = self.month.even_place(place)?;
-        Some(self.rows.as_flattened()[usize::from(even)])
+        let hour = self.month.hour_at(place)?;
+        Some(self.marks.zone(hour.weekend, hour.clock))
     }
 }
 
@@ -111,20 +112,20 @@ impl Tally {
 
     // Joins an hour of `zone`, which took energy at the sale price or gave it at `rate`. In place: a reading is to cost no copy of
     // the tally.
-    fn add_hour(&mut self, zone: Zone, balance: Balance, sale: u32, rate: u32)
+    fn add_hour(&mut self, zone: Zone, taken: u32, given: u32, sale: u32, rate: u32)
         requires room { self.old.hours < 745 }
-        requires energy { balance.taken + balance.given ≤ 100000 }
+        requires energy { taken + given ≤ 100000 }
         requires sale { sale ≤ 1000000 }
         requires rate { rate ≤ 1000000 }
-        ensures value { self.new ≡ grown (zone_number zone) balance.taken balance.given sale rate self.old }
+        ensures value { self.new ≡ grown (zone_number zone) taken given sale rate self.old }
         ensures bounded { Bounded self.new.hours self.new.totals }
     {
         let at = zone as usize;
         self.hours += 1;
-        self.totals.import[at] += balance.taken;
-        self.totals.export[at] += balance.given;
-        self.totals.charge += amount(balance.taken, sale);
-        self.totals.value += amount(balance.given, rate);
+        self.totals.charge += amount(taken, sale);
+        self.totals.import[at] += taken;
+        self.totals.export[at] += given;
+        self.totals.value += amount(given, rate);
     }
 }
 
@@ -140,18 +141,15 @@ impl Book {
         let Some(month) = Month::new(month) else {
             return Err(BookFault::MonthOutOfRange);
         };
-        let working = zones_of(&tariff.marks[0])?;
-        let weekend = zones_of(&tariff.marks[1])?;
+        let marks = Marks::new(tariff.marks)?;
         if !all_cheap(&tariff.sale) {
             return Err(BookFault::SalePriceTooHigh);
         }
         Ok(Book {
             terms: Terms {
                 month,
-                working,
-                weekend,
+                marks,
                 sale: tariff.sale,
-                rows: rows_of(&month, working, weekend),
             },
             tally: Tally::empty(),
         })
@@ -187,7 +185,9 @@ impl Book {
             None => 0,
         };
         let sale = self.terms.sale[zone as usize];
-        self.tally.add_hour(zone, reading.balance(), sale, rate);
+        let balance = reading.balance();
+        self.tally
+            .add_hour(zone, balance.taken(), balance.given(), sale, rate);
         Ok(())
     }
 
@@ -197,11 +197,11 @@ impl Book {
         reading: Reading,
         source: &mut S,
     ) -> Result<(), BookFault>
-        ensures answer { result ≡ answer (next_reading S.PriceSource source.old self.old.terms self.old.tally reading.import reading.export) }
+        ensures answer { result ≡ answer (next_reading S.PriceSource (S.PriceSource.state source.old) self.old.terms self.old.tally reading.import reading.export) }
         ensures terms { self.new.terms ≡ self.old.terms }
-        ensures tally { self.new.tally ≡ after self.old.tally (next_reading S.PriceSource source.old self.old.terms self.old.tally reading.import reading.export) }
-        ensures asked { S.PriceSource.state source.new ≡ next_state S.PriceSource source.old self.old.terms self.old.tally reading.import reading.export }
-        ensures history { ReadsOn self.old.terms self.old.tally (next_hour S.PriceSource source.old self.old.terms self.old.tally reading.import reading.export) result self.new.tally }
+        ensures tally { self.new.tally ≡ after self.old.tally (next_reading S.PriceSource (S.PriceSource.state source.old) self.old.terms self.old.tally reading.import reading.export) }
+        ensures asked { S.PriceSource.state source.new ≡ next_state S.PriceSource (S.PriceSource.state source.old) self.old.terms self.old.tally reading.import reading.export }
+        ensures history { ReadsOn self.old.terms self.old.tally (next_hour S.PriceSource (S.PriceSource.state source.old) self.old.terms self.old.tally reading.import reading.export) result self.new.tally }
     {
         let zone = self.next_zone(reading)?;
         let price = if reading.import < reading.export {
@@ -212,19 +212,20 @@ impl Book {
         self.join(zone, reading, price)
     }
 
-    // Reads the next hour, and asks the source wherever the hour can be read: of use where asking costs less than to find out whether
-    // a price is needed. Inlined with what it calls, so that a caller's loop keeps in registers what no reading changes.
+    // Reads the next hour as `read` does, but asks the source wherever the hour can be read, which cannot be told of one that asking
+    // leaves as it is: of use where asking costs less than to find out whether a price is needed. Inlined with what it calls, so that
+    // a caller's loop keeps in registers what no reading changes.
     #[inline(always)]
-    pub fn read_asking<S: PriceSource>(
+    pub fn read_asking<S: StillSource>(
         &mut self,
         reading: Reading,
         source: &mut S,
     ) -> Result<(), BookFault>
-        ensures answer { result ≡ answer (next_reading S.PriceSource source.old self.old.terms self.old.tally reading.import reading.export) }
+        ensures answer { result ≡ answer (next_reading S.PriceSource (S.PriceSource.state source.old) self.old.terms self.old.tally reading.import reading.export) }
         ensures terms { self.new.terms ≡ self.old.terms }
-        ensures tally { self.new.tally ≡ after self.old.tally (next_reading S.PriceSource source.old self.old.terms self.old.tally reading.import reading.export) }
-        ensures asked { S.PriceSource.state source.new ≡ state_asked S.PriceSource source.old self.old.terms self.old.tally reading.import reading.export }
-        ensures history { ReadsOn self.old.terms self.old.tally (next_hour S.PriceSource source.old self.old.terms self.old.tally reading.import reading.export) result self.new.tally }
+        ensures tally { self.new.tally ≡ after self.old.tally (next_reading S.PriceSource (S.PriceSource.state source.old) self.old.terms self.old.tally reading.import reading.export) }
+        ensures asked { S.PriceSource.state source.new ≡ next_state S.PriceSource (S.PriceSource.state source.old) self.old.terms self.old.tally reading.import reading.export }
+        ensures history { ReadsOn self.old.terms self.old.tally (next_hour S.PriceSource (S.PriceSource.state source.old) self.old.terms self.old.tally reading.import reading.export) result self.new.tally }
     {
         let zone = self.next_zone(reading)?;
         let price = source.ask(self.terms.month.number(), self.tally.hours);

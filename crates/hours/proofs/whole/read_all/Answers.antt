@@ -16,11 +16,11 @@ loop-read-preserved g c =
     let e = c.read.ensures in
     let r = reading_at c.args.readings.now c.loop-read.read-counter in
     let Step : Result (Unit {0}) BookFault → Type 0 =
-    λ a. ReadStep g.S.PriceSource c.loop-read.source c.loop-read.book.terms c.loop-read.book.tally r.import r.export a c.read.new.self.terms c.read.new.self.tally c.read.new.source in
+    λ a. ReadStep g.S.PriceSource (g.S.PriceSource.state c.loop-read.source) c.loop-read.book.terms c.loop-read.book.tally r.import r.export a c.read.new.self.terms c.read.new.self.tally (g.S.PriceSource.state c.read.new.source) in
     let step : Step c.read.result = record { answered = e.answer; terms = e.terms; asked = e.asked; history = e.history } in
     let ok = still_ok c.read.result c.map_err.result c.in_ok-map_err.field-0 c.map_err.ensures.variant c.in_ok-map_err.was in
-    read_to_more g.S.PriceSource g.met.S.PriceSource.steady c.args.book.now.terms c.args.source.now c.args.readings.now c.loop-read.read-counter
-    c.loop-read.book.terms c.read.new.self.terms c.loop-read.book.tally c.read.new.self.tally c.loop-read.source c.read.new.source
+    read_to_more g.S.PriceSource g.met.S.PriceSource.steady c.args.book.now.terms (g.S.PriceSource.state c.args.source.now) c.args.readings.now c.loop-read.read-counter
+    c.loop-read.book.terms c.read.new.self.terms c.loop-read.book.tally c.read.new.self.tally (g.S.PriceSource.state c.loop-read.source) (g.S.PriceSource.state c.read.new.source)
     c.loop-read.invariant c.loop-read-test.true (subst Step ok step)
 
 pub returns-in_err-map_err : goal.returns-in_err-map_err
@@ -29,15 +29,15 @@ returns-in_err-map_err g c =
     let i = c.loop-read.read-counter in
     let r = reading_at c.args.readings.now i in
     let Step : Result (Unit {0}) BookFault → Type 0 =
-    λ a. ReadStep g.S.PriceSource c.loop-read.source c.loop-read.book.terms c.loop-read.book.tally r.import r.export a c.read.new.self.terms c.read.new.self.tally c.read.new.source in
+    λ a. ReadStep g.S.PriceSource (g.S.PriceSource.state c.loop-read.source) c.loop-read.book.terms c.loop-read.book.tally r.import r.export a c.read.new.self.terms c.read.new.self.tally (g.S.PriceSource.state c.read.new.source) in
     let step : Step c.read.result = record { answered = e.answer; terms = e.terms; asked = e.asked; history = e.history } in
     let err : Refused c.read.result c.in_err-map_err.field-0.0 i =
     by_result c.read.result (λ u o. absurd (false≢true (ap is_ok (sym c.in_err-map_err.was) ∙ c.map_err.ensures.variant ∙ ap is_ok o)))
     (λ f q. let k = rw q at c.in_err-map_err.ensures.cases in (f, (q, search rules))) in
     let p = err_from_is_err_and c.from_residual.result c.from_residual.ensures.1 in
     let o =
-    read_to_refused g.S.PriceSource c.args.book.now.terms c.args.source.now c.args.readings.now i err.0
-    c.loop-read.book.terms c.read.new.self.terms c.loop-read.book.tally c.read.new.self.tally c.loop-read.source c.read.new.source
+    read_to_refused g.S.PriceSource c.args.book.now.terms (g.S.PriceSource.state c.args.source.now) c.args.readings.now i err.0
+    c.loop-read.book.terms c.read.new.self.terms c.loop-read.book.tally c.read.new.self.tally (g.S.PriceSource.state c.loop-read.source) (g.S.PriceSource.state c.read.new.source)
     c.loop-read.invariant c.loop-read-test.true (subst Step err.1.0 step) in
     let q : c.from_residual.result ≡ Err (record { read = i; fault = err.0 }) = p.1 ∙ ap Err (p.2 ∙ err.1.1) in
     record { refusal = ap result_err q ∙ o.refusal; terms = o.terms; history = IfOk-from_err c.from_residual.result _ c.from_residual.ensures.0; asked = o.asked }

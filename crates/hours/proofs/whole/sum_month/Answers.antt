@@ -2,7 +2,6 @@ use Rattle.std.proofs.Common.{◌≡◌, Err, Result, length, sym, ap, ◌∙◌
 use Rattle.std.specs.Result.{IfOk, result_err}
 use Rattle.std.proofs.lemmas.Result.{err_from_is_err_and}
 use Rattle.hours.specs.Opening.{Opened}
-use Rattle.hours.specs.Source.{prices_of}
 use Rattle.hours.specs.Whole.{MonthSummed, month_refusal}
 use Rattle.hours.specs.declared.book.Book.{Book}
 use Rattle.hours.specs.declared.sums.MonthSums.{MonthSums}
@@ -14,6 +13,7 @@ use Rattle.hours.proofs.whole.sum_month.Goals as goal
 pub returns : goal.returns
 returns g c =
     let G = g.S.PriceSource in
+    let s = G.state c.args.source.now in
     let m = c.args.month in
     let marks = c.args.tariff.marks in
     let sale = c.args.tariff.sale in
@@ -28,18 +28,18 @@ returns g c =
     subst (λ (y : Book). Opened m marks sale y.terms y.tally) k (rw q at c.open.ensures.opened))
     (λ f q. absurd (rw q at c.in_ok-book.ensures.cases)) in
     let Comes : Result MonthSums MonthRefused → Type 0 =
-    λ r. (result_err r ≡ month_refusal m marks sale (prices_of G c.args.source.now m) rs)
-    × IfOk r (λ s. MonthSummed m marks sale (prices_of G c.args.source.now m) rs s.month s.totals) in
+    λ r. (result_err r ≡ month_refusal m marks sale (G.gives s m) rs)
+    × IfOk r (λ x. MonthSummed m marks sale (G.gives s m) rs x.month x.totals) in
     let comes : Comes c.map_err-2.result =
     by_result c.finish.result
-    (λ s q.
+    (λ x q.
     let k = rw q at c.map_err-2.ensures.cases in
     let f = rw q at c.finish.ensures.sums in
-    subst Comes (sym k) (finished_month G c.args.source.now m marks sale rs b.terms b'.terms b.tally b'.tally s.month s.totals o e.terms e.refusal e.history f))
+    subst Comes (sym k) (finished_month G s m marks sale rs b.terms b'.terms b.tally b'.tally x.month x.totals o e.terms e.refusal e.history f))
     (λ u q.
     let f = rw q at c.finish.ensures.sums in
     let p = err_from_is_err_and c.map_err-2.result (rw q at c.map_err-2.ensures.cases) in
     let d : ◌≡◌ {A = MonthRefused} p.0 (record { read = length rs; fault = u.fault }) = search rules in
     subst Comes (sym (p.1 ∙ ap Err d))
-    (unfinished_month G c.args.source.now m marks sale rs b.terms b'.terms b.tally b'.tally u.fault o e.terms e.refusal e.history f.0 f.1, tt)) in
-    record { refusal = comes.0; sums = comes.1; asked = asked_month G c.args.source.now m marks sale rs b.terms b.tally _ o e.asked }
+    (unfinished_month G s m marks sale rs b.terms b'.terms b.tally b'.tally u.fault o e.terms e.refusal e.history f.0 f.1, tt)) in
+    record { refusal = comes.0; sums = comes.1; asked = asked_month G s m marks sale rs b.terms b.tally _ o e.asked }

@@ -1,7 +1,8 @@
-use Rattle.std.proofs.Common.{◌≡◌, None, sym, ◌∙◌, rules}
+use Rattle.std.proofs.Common.{◌≡◌, ◌-◌, None, neg_ℤ, sym, ap, ◌∙◌, rules}
 use Rattle.std.proofs.lemmas.Option.{none-some}
-use Rattle.hours.specs.Price.{worth}
+use Rattle.hours.specs.Price.{positive, worth}
 use Rattle.hours.specs.Reading.{joined_at, read_refusal, hours_of}
+use Rattle.hours.proofs.Balance.{net_taken, net_given}
 use Rattle.hours.proofs.History.{accepted, joins}
 use Rattle.hours.proofs.book.Book.join.Goals as goal
 use Rattle.hours.proofs.book.Book.join.Goals.{in-Some, in-None-2}
@@ -12,7 +13,11 @@ returns-clause-tally c =
     let y = c.args.self.now.tally in
     let i = c.args.reading.import in
     let e = c.args.reading.export in
-    let value : c.add_hour.new.self ≡ joined_at t y i e c.match-price.rate = let z = c.requires.zone.zone in search rules in
+    let value : c.add_hour.new.self ≡ joined_at t y i e c.match-price.rate =
+    let z = c.requires.zone.zone in
+    let taken : c.taken.result ≡ i - e = c.taken.ensures ∙ ap positive c.balance-balance.ensures ∙ net_taken i e in
+    let given : c.given.result ≡ e - i = c.given.ensures ∙ ap (λ n. positive (neg_ℤ n)) c.balance-balance.ensures ∙ net_given i e in
+    search rules in
     let none : read_refusal (hours_of t) y.hours i e c.args.price ≡ None = elim c.match-price.branch [
       | in-Some w ↦ accepted t y i e _ c.args.price c.requires.zone (λ q. absurd (none-some _ (sym q ∙ w.in-Some.is)))
       | in-None-2 w ↦ accepted t y i e _ c.args.price c.requires.zone (λ _. w.if-reading.false)

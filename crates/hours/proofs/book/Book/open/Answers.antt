@@ -1,26 +1,23 @@
 use Rattle.std.proofs.Common.{sym, refl}
-use Rattle.hours.proofs.Openings.{named_row, not_refused, too_high, zones_marked}
+use Rattle.hours.proofs.Openings.{named_rows, not_refused, too_high, zones_marked}
 use Rattle.hours.proofs.History.{read_none}
 use Rattle.hours.proofs.book.Book.open.Goals as goal
 
 pub returns-then-not-all_cheap-clause-opened : goal.returns-then-not-all_cheap-clause-opened
 returns-then-not-all_cheap-clause-opened c =
     too_high c.args.month c.args.tariff.marks c.args.tariff.sale c.if-month-lt47.false c.in-Some.ensures.1
-    (named_row _ _ c.in_ok-working.ensures.named) (named_row _ _ c.in_ok-weekend.ensures.named) (sym c.if-not-all_cheap.ensures.value)
+    (named_rows c.in_ok-marks.marks c.args.tariff.marks c.in_ok-marks.ensures) (sym c.if-not-all_cheap.ensures.value)
 
 pub returns-clause-opened : goal.returns-clause-opened
 returns-clause-opened c =
-    let w = c.in_ok-working.ensures in
-    let f = c.in_ok-weekend.ensures in
+    let kept = c.in_ok-marks.marks in
     record {
       accepted = not_refused c.args.month c.args.tariff.marks c.args.tariff.sale c.if-month-lt47.false c.in-Some.ensures.1
-          (named_row _ _ w.named) (named_row _ _ f.named) (sym c.if-not-all_cheap.ensures.value);
+          (named_rows kept c.args.tariff.marks c.in_ok-marks.ensures) (sym c.if-not-all_cheap.ensures.value);
       month = c.in-Some.ensures.0;
-      working = w.named;
-      weekend = f.named;
+      marked = c.in_ok-marks.ensures;
       sales = refl;
-      zones = zones_marked c.in-Some.month.number c.args.month c.in_ok-working.working c.in_ok-weekend.weekend c.args.tariff.marks
-          c.in-Some.ensures.0 w.sized f.sized w.named f.named;
+      zones = zones_marked c.in-Some.month.number c.args.month kept c.args.tariff.marks c.in-Some.ensures.0 c.in_ok-marks.ensures;
       unread = c.empty.ensures;
     }
 

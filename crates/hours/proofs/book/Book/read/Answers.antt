@@ -10,7 +10,7 @@ use Rattle.hours.proofs.book.Book.read.Goals.{then-reading, else-reading}
 pub returns-in_err-zone : goal.returns-in_err-zone
 returns-in_err-zone g c =
     let G = g.S.PriceSource in
-    let s = c.args.source.now in
+    let s = G.state c.args.source.now in
     let t = c.args.self.now.terms in
     let y = c.args.self.now.tally in
     let i = c.args.reading.import in
@@ -23,7 +23,7 @@ returns-in_err-zone g c =
 pub returns : goal.returns
 returns g c =
     let G = g.S.PriceSource in
-    let s = c.args.source.now in
+    let s = G.state c.args.source.now in
     let t = c.args.self.now.terms in
     let y = c.args.self.now.tally in
     let i = c.args.reading.import in
@@ -36,7 +36,7 @@ returns g c =
     let asked : G.state c.if-reading.source ≡ next_state G s t y i e = elim c.if-reading.branch [
       | then-reading w ↦
           let n = needed t y i e _ z w.if-reading.true in
-          let after : G.state w.ask-price.new.self ≡ G.asked (G.state s) t.month.number y.hours = search rules in
+          let after : G.state w.ask-price.new.self ≡ G.asked s t.month.number y.hours = search rules in
           ap G.state w.source-is ∙ after ∙ if_asked _ _ _ n
       | else-reading w ↦
           let n = unneeded t y i e _ z w.if-reading.false in

@@ -1,35 +1,35 @@
 use Rattle.std.proofs.Common.{◌≡◌, Err, ap, ◌∙◌, refl, rules}
 use Rattle.std.proofs.lemmas.Result.{err_from_is_err_and}
 use Rattle.hours.specs.Reading.{reading}
-use Rattle.hours.specs.Source.{next_price, state_asked}
-use Rattle.hours.proofs.Calls.{reading_comes, refusal_comes, if_asked, if_unasked, not_read, readable}
+use Rattle.hours.specs.Source.{next_price, next_state}
+use Rattle.hours.proofs.Calls.{reading_comes, refusal_comes, if_still, if_unasked, not_needed}
 use Rattle.hours.proofs.book.Book.read_asking.Goals as goal
 
 pub returns-in_err-zone : goal.returns-in_err-zone
 returns-in_err-zone g c =
     let G = g.S.PriceSource in
-    let s = c.args.source.now in
+    let s = G.state c.args.source.now in
     let t = c.args.self.now.terms in
     let y = c.args.self.now.tally in
     let i = c.args.reading.import in
     let e = c.args.reading.export in
     let p = err_from_is_err_and c.from_residual.result c.from_residual.ensures.1 in
     let a = refusal_comes t y i e (next_price G s t y) _ _ c.in_err-zone.ensures (p.1 ∙ ap Err p.2) in
-    let n = not_read t y i e _ c.in_err-zone.ensures in
+    let n = not_needed t y i e _ c.in_err-zone.ensures in
     record { answer = a.answer; terms = refl; tally = a.tally; asked = if_unasked _ _ _ n; history = a.history }
 
 pub returns : goal.returns
 returns g c =
     let G = g.S.PriceSource in
-    let s = c.args.source.now in
+    let s = G.state c.args.source.now in
     let t = c.args.self.now.terms in
     let y = c.args.self.now.tally in
     let i = c.args.reading.import in
     let e = c.args.reading.export in
-    let n = readable t y i e _ c.in_ok-zone.ensures in
     let done = c.join.ensures in
     let same : reading t y i e c.ask-price.result ≡ reading t y i e (next_price G s t y) = ap (reading t y i e) (search rules) in
     let a = reading_comes t y i e (next_price G s t y) c.ask-price.result _ _ same done.answer done.tally done.bounded in
-    let after : G.state c.ask-price.new.self ≡ G.asked (G.state s) t.month.number y.hours = search rules in
-    let asked : G.state c.ask-price.new.self ≡ state_asked G s t y i e = after ∙ if_asked _ _ _ n in
+    let after : G.state c.ask-price.new.self ≡ G.asked s t.month.number y.hours = search rules in
+    let still = g.met.S.StillSource.still s t.month.number y.hours in
+    let asked : G.state c.ask-price.new.self ≡ next_state G s t y i e = after ∙ still ∙ if_still _ _ _ still in
     record { answer = a.answer; terms = done.terms; tally = a.tally; asked = asked; history = a.history }

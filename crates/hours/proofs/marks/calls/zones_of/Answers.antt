@@ -7,7 +7,7 @@ use Rattle.faults.specs.declared.BookFault.TheVariants.{MarkOutOfRange}
 use Rattle.hours.specs.Zones.{names_zone, zone_number}
 use Rattle.hours.specs.Marks.{RowNamed, each_zone, marks_of}
 use Rattle.hours.specs.declared.zones.Zone.{Zone}
-use Rattle.hours.proofs.marks.zones_of.Goals as goal
+use Rattle.hours.proofs.marks.calls.zones_of.Goals as goal
 
 -- zones that each have the number of their mark
 named_all : {R : ℕ → Zone → Type 0} → ((x : ℕ) (z : Zone) → R x z → zone_number z ≡ x) → (row : List ℕ) (zones : List Zone) → AllZip R row zones → marks_of zones ≡ row

@@ -1,0 +1,7 @@
+use Rattle.calendar.proofs.DaysOff.{off_at}
+use Rattle.calendar.proofs.month.Month.is_day_off.Goals as goal
+
+pub returns : goal.returns
+returns c =
+    let m = c.args.self.now in
+    off_at m.number m.first c.args.day m.begins c.requires

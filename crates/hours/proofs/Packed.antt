@@ -1,0 +1,102 @@
+-- Rows of zones in two bits each.
+use Rattle.std.proofs.Common.{◌≡◌, ℕ, zero, suc, ◌+◌, ◌*◌, ◌/◌, ◌%◌, ◌^◌, ◌<◌, ◌≤◌, Bool, true, false, cond, List, [], ◌∷◌, length, get_or, drop, length-drop, sym, refl, ap, ◌∙◌, arith, drop-cons, add-one}
+use Rattle.std.proofs.lemmas.List.{get_or-map}
+use Rattle.std.proofs.lemmas.List.FromFn.{fill_by_all, get_or-map-range_with_len, length-map-range_with_len}
+use Rattle.std.proofs.lemmas.Nat.{shr-shr}
+use Rattle.std.proofs.Math.Nat.{pow-le-pow_right}
+use Rattle.hours.specs.Marks.{marks_of, rows_of, zone_kept}
+use Rattle.hours.specs.Packed.{Coded, bits_in, packed, zone_in, zones_in}
+use Rattle.hours.specs.Zones.{zone_bits, zone_number, zone_of_bits}
+use Rattle.hours.specs.declared.marks.Marks.{Marks}
+use Rattle.hours.specs.declared.zones.Zone.{Zone}
+use Rattle.hours.specs.declared.zones.Zone.TheVariants.{First, Second, Third}
+
+-- the two bits of a zone
+bits_small : (z : Zone) → zone_bits z < 3
+bits_small First = omega arith
+bits_small Second = omega arith
+bits_small Third = omega arith
+
+bits_stand : (z : Zone) → zone_of_bits (zone_bits z) ≡ z
+bits_stand First = refl
+bits_stand Second = refl
+bits_stand Third = refl
+
+-- a row of n zones takes 2 n bits
+pub packed_small : (zs : List Zone) → packed zs < 4 ^ length zs
+unfolding packed
+packed_small [] = omega arith
+packed_small (z ∷ zs) =
+    let h = packed_small zs in
+    let b = bits_small z in
+    let e : 4 ^ suc (length zs) ≡ 4 * 4 ^ length zs = omega arith in
+    omega arith
+
+-- so one more row of two bits fits behind those of 23 hours
+pub packed_room : (zs : List Zone) (i : ℕ) → length zs ≡ 24 → 0 < i → packed (drop i zs) < 4 ^ 23
+packed_room zs i l h =
+    let p = packed_small (drop i zs) in
+    let n : length (drop i zs) ≤ 23 = simp length-drop (omega arith) in
+    let b : 0 < 4 = omega arith in
+    let q = pow-le-pow_right b n in
+    omega arith
+
+pub packed_none : (zs : List Zone) → length zs ≡ 0 → 0 ≡ packed zs
+unfolding packed
+packed_none [] l = refl
+packed_none (z ∷ zs) l = absurd (omega arith)
+
+-- the zones from place i on, once those behind it are packed
+pub packed_more : (zs : List Zone) (i bits : ℕ) → i < length zs → bits ≡ packed (drop (i + 1) zs) → 4 * bits + zone_bits (get_or zs i First) ≡ packed (drop i zs)
+unfolding packed
+packed_more zs i bits h e =
+    let d : drop i zs ≡ get_or zs i First ∷ drop (i + 1) zs = rw (add-one, drop-cons zs i First) in
+    let k = ap packed d in
+    omega arith
+
+-- the two bits of each zone are found at its place
+bits_at_place : (zs : List Zone) (c : ℕ) → bits_in (packed zs) c ≡ zone_bits (get_or zs c First)
+unfolding packed
+bits_at_place [] c = omega arith
+bits_at_place (z ∷ zs) zero =
+    let b = bits_small z in
+    omega arith
+bits_at_place (z ∷ zs) (suc c) =
+    let b = bits_small z in
+    let n = zone_bits z + 4 * packed zs in
+    let k : 2 + 2 * c ≡ 2 * suc c = omega arith in
+    let d : n / 2 ^ 2 ≡ packed zs = omega arith in
+    let e : n / 2 ^ (2 * suc c) ≡ packed zs / 2 ^ (2 * c) = ap (λ j. n / 2 ^ j) (sym k) ∙ sym (shr-shr n 2 (2 * c)) ∙ ap (λ m. m / 2 ^ (2 * c)) d in
+    ap (λ m. m % 4) e ∙ bits_at_place zs c
+
+pub packed_coded : (zs : List Zone) → Coded (packed zs)
+packed_coded zs c h =
+    let e = bits_at_place zs c in
+    let b = bits_small (get_or zs c First) in
+    omega arith
+
+zone_at_place : (zs : List Zone) (c : ℕ) → zone_in (packed zs) c ≡ get_or zs c First
+zone_at_place zs c = ap zone_of_bits (bits_at_place zs c) ∙ bits_stand (get_or zs c First)
+
+-- the zones of a packed row are those that were packed
+pub zones_packed : (zs : List Zone) → length zs ≡ 24 → zones_in (packed zs) ≡ zs
+unfolding zones_in
+zones_packed zs l = sym (fill_by_all (λ c. zone_in (packed zs) c) zs 24 First l (λ k h. sym (zone_at_place zs k)))
+
+-- the mark of a clock hour names its zone
+mark_in : (bits c : ℕ) → c < 24 → zone_number (zone_in bits c) ≡ get_or (marks_of (zones_in bits)) c 0
+unfolding zones_in
+mark_in bits c h =
+    let l = length-map-range_with_len (λ k. zone_in bits k) 0 24 in
+    sym (get_or-map zone_number (zones_in bits) c First 0 (omega arith) ∙ ap zone_number (get_or-map-range_with_len (λ k. zone_in bits k) 0 24 c c First h (omega arith)))
+
+pub mark_kept : (m : Marks) (weekend : Bool) (c : ℕ) → c < 24 → zone_number (zone_kept m weekend c) ≡ get_or (get_or (rows_of m) (cond weekend 1 0) []) c 0
+mark_kept m true c h = mark_in m.weekend c h
+mark_kept m false c h = mark_in m.working c h
+
+-- two rows, by their places
+pub both_rows : (rows : List (List ℕ)) → length rows ≡ 2 → get_or rows 0 [] ∷ get_or rows 1 [] ∷ [] ≡ rows
+both_rows [] l = absurd (omega arith)
+both_rows (a ∷ []) l = absurd (omega arith)
+both_rows (a ∷ b ∷ []) l = refl
+both_rows (a ∷ b ∷ c ∷ rows) l = absurd (omega arith)
