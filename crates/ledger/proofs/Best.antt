@@ -7,7 +7,7 @@ use Rattle.portions.specs.Portions.{Portion, fresh}
 use Rattle.portions.specs.Taking.{oldest}
 use Rattle.portions.specs.Totals.{total-++, total_parts}
 use Rattle.ledger.specs.Kinds.{Kind, LawfulKind}
-use Rattle.ledger.specs.Rules.{Rule}
+use Rattle.ledger.specs.Rules.{Draw}
 use Rattle.ledger.specs.Ledger.{Ledger, left_in, lefts}
 use Rattle.ledger.specs.Calls.Call.{open_for, enter, draw, turn}
 use Rattle.ledger.specs.Steps.{machine, taking, stays_in}
@@ -90,9 +90,9 @@ module _ {T : Type 0} (kind : Kind T) (m₀ : ℕ) (way : Way) where
       let le = sum_le 1200 (λ k. cond (leb m k && leb R (k + kind.life)) (remains m₀ way (entered amount terms ∷ h) k) 0) (λ k. old k + new k) (λ k. grind (arith, nat_tests)) in
       omega (arith, le, sum-+ 1200 old new, sum_one 1200 R (cond (leb m R) amount 0) lt)
 
-  module _ (rule : Rule) (wanted answer : ℕ) (h : History T) where
+  module _ (d : Draw) (answer : ℕ) (h : History T) where
     abbrev way_left_drew : ℕ → ℕ
-    way_left_drew m = way_left_from kind m₀ way (drew rule wanted answer ∷ h) m
+    way_left_drew m = way_left_from kind m₀ way (drew d answer ∷ h) m
 
     drew_less : (m : ℕ) → way_left_drew m ≤ way_left_from kind m₀ way h m
     drew_less m =
@@ -104,7 +104,7 @@ module _ {T : Type 0} (kind : Kind T) (m₀ : ℕ) (way : Way) where
         sum_le 1200 (λ k. cond (leb m k && leb (reached m₀ h) (k + kind.life)) (received m₀ h k - (taken way h k + way (length h) k)) 0)
         (λ k. cond (leb 0 k && leb (reached m₀ h) (k + kind.life)) (received m₀ h k - (taken way h k + way (length h) k)) 0) (λ k. grind (arith, nat_tests))
 
-    drew_all : FairDraw kind m₀ h wanted (taken way h) (way (length h)) → way_left_drew 0 + over_months (way (length h)) ≤ way_left_from kind m₀ way h 0
+    drew_all : FairDraw kind m₀ h d.wanted (taken way h) (way (length h)) → way_left_drew 0 + over_months (way (length h)) ≤ way_left_from kind m₀ way h 0
     drew_all fair =
         let after : ℕ → ℕ = λ k. cond (leb 0 k && leb (reached m₀ h) (k + kind.life)) (received m₀ h k - (taken way h k + way (length h) k)) 0 in
         let le = sum_le 1200 (λ k. after k + way (length h) k) (λ k. cond (leb 0 k && leb (reached m₀ h) (k + kind.life)) (remains m₀ way h k) 0)
@@ -131,12 +131,12 @@ module _ {T : Type 0} (kind : Kind T) (m₀ : ℕ) (way : Way) where
       let more = total-++ (λ (p : Portion T). cond (leb m p.month) p.left 0) s.portions (fresh s.month amount terms ∷ []) in
       let same = ap (λ (n : ℕ). cond (leb m n) amount 0) ok.month_is in
       omega (arith, a.so went fair m, way_more, more, same)
-  behind (draw rule wanted) answer h s a went fair m =
+  behind (draw d) answer h s a went fair m =
       let ih = a.so went.1 fair.1 in
       let ok = sound kind m₀ h s a.had in
       let gave = went.0 s a.had in
-      let took = a.told ∙ a.follows.full s.month wanted (lefts s) in
-      let goal : List ℕ → Type 0 = λ xs. way_used way (drew rule wanted answer ∷ h) + way_left_drew rule wanted answer h m ≤ Used h + answer + left_from m (taking xs s.portions) in
+      let took = a.told ∙ a.follows.full s.month d.wanted (lefts s) in
+      let goal : List ℕ → Type 0 = λ xs. way_used way (drew d answer ∷ h) + way_left_drew d answer h m ≤ Used h + answer + left_from m (taking xs s.portions) in
       subst goal (sym gave)
       (omega (
         arith,
@@ -146,10 +146,10 @@ module _ {T : Type 0} (kind : Kind T) (m₀ : ℕ) (way : Way) where
         sum_lefts s.portions,
         below_and_from m s.portions,
         below_and_from 0 s.portions,
-        oldest_from m 0 wanted s.portions ok.rising,
-        drew_less rule wanted answer h m,
-        drew_from rule wanted answer h m,
-        drew_all rule wanted answer h fair.0,
+        oldest_from m 0 d.wanted s.portions ok.rising,
+        drew_less d answer h m,
+        drew_from d answer h m,
+        drew_all d answer h fair.0,
         fair.0.at_most_wanted,
       ))
   behind turn answer h s a went fair m =

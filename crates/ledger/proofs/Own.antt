@@ -81,29 +81,29 @@ module _ {T : Type 0} where
 -- what a way took from the portions of all months is what it used
 pub taken_sum : {T : Type 0} (way : Way) (h : History T) → over_months (taken way h) ≡ way_used way h
 taken_sum way [] = sum_zero 1200
-taken_sum way (drew rule wanted answer ∷ h) = omega (arith, taken_sum way h, sum-+ 1200 (taken way h) (way (length h)))
+taken_sum way (drew d answer ∷ h) = omega (arith, taken_sum way h, sum-+ 1200 (taken way h) (way (length h)))
 taken_sum way (_ ∷ h) = taken_sum way h
 
 module _ {T : Type 0} (kind : Kind T) (m₀ : ℕ) where
   -- a way is the store's own if it agrees with one at the places of the history
   own_like : (v w : Way) (h : History T) → ((n : ℕ) → n < length h → (k : ℕ) → w n k ≡ v n k) → Own kind m₀ v h → Own kind m₀ w h
   own_like v w [] same own = tt
-  own_like v w (drew rule wanted answer ∷ h) same own =
+  own_like v w (drew d answer ∷ h) same own =
       ((λ s had k. same (length h) (omega arith) k ∙ own.0 s had k), own_like v w h (λ n lt k. same n (omega (arith, lt)) k) own.1)
   own_like v w (_ ∷ h) same own = own_like v w h (λ n lt k. same n (omega (arith, lt)) k) own
 
   pub own_exists : (h : History T) (s : Ledger T) → Had kind m₀ h s → (way : Way) × Own kind m₀ way h
   own_exists [] s had = ((λ n k. 0), tt)
-  own_exists (drew rule wanted answer ∷ h) s had =
+  own_exists (drew d answer ∷ h) s had =
       let ih = own_exists h had.0 had.1 in
       let was = had.0 in
-      let here : ℕ → ℕ = λ k. taken_from k (takings rule wanted was) was.portions in
+      let here : ℕ → ℕ = λ k. taken_from k (takings d.rule d.wanted was) was.portions in
       let way : Way = λ n k. cond (eqb n (length h)) (here k) (ih.0 n k) in (
         way,
         (
           (λ s' had' k.
               let at : cond (eqb (length h) (length h)) (here k) (ih.0 (length h) k) ≡ here k = grind (arith, nat_tests) in
-              at ∙ ap (λ (x : Ledger T). taken_from k (takings rule wanted x) x.portions) (history_decides (machine kind) m₀ h was s' had.1 had')),
+              at ∙ ap (λ (x : Ledger T). taken_from k (takings d.rule d.wanted x) x.portions) (history_decides (machine kind) m₀ h was s' had.1 had')),
           own_like ih.0 way h (λ n lt k. let z : ℕ = here k in let old : cond (eqb n (length h)) z (ih.0 n k) ≡ ih.0 n k = grind (arith, nat_tests) in old) ih.1,
         ),
       )
@@ -134,12 +134,12 @@ module _ {T : Type 0} (kind : Kind T) (m₀ : ℕ) where
         let at = (sound kind m₀ h s a.had).month_is in
         let more = total-++ (λ (p : Portion T). cond (eqb p.month k) p.left 0) s.portions (fresh s.month amount terms ∷ []) in
         record { in_all = omega (arith, le); open_left = grind (arith, nat_tests) }
-    leaves_lead k (draw rule wanted) _ h s a own =
+    leaves_lead k (draw d) _ h s a own =
         let ih = a.so own.1 in
         let le = ih.in_all in
         let eq = ih.open_left in
         let gave = own.0 s a.had k in
-        let less = left_at_taking k (takings rule wanted s) s.portions (within a.follows s.month (lefts s) wanted) in
+        let less = left_at_taking k (takings d.rule d.wanted s) s.portions (within a.follows s.month (lefts s) d.wanted) in
         record { in_all = grind (arith, nat_tests); open_left = grind (arith, nat_tests) }
     leaves_lead k turn _ h s a own =
         let ih = a.so own in
@@ -163,16 +163,16 @@ module _ {T : Type 0} (kind : Kind T) (m₀ : ℕ) where
 
     own_fair : (h : History T) (s : Ledger T) → Had kind m₀ h s → Own kind m₀ way h → Fair kind m₀ way h
     own_fair [] s had own = tt
-    own_fair (drew rule wanted answer ∷ h) s had own =
+    own_fair (drew d answer ∷ h) s had own =
         let was = had.0 in
         let gave = own.0 was had.1 in (
           record {
-            at_most_wanted = omega (arith, own_draw rule had.2.3 wanted h was had.1 own.1 gave, had.2.3.full was.month wanted (lefts was));
+            at_most_wanted = omega (arith, own_draw d.rule had.2.3 d.wanted h was had.1 own.1 gave, had.2.3.full was.month d.wanted (lefts was));
             from_open = λ k lt.
-                let told = from_told k (takings rule wanted was) was.portions (omega (arith, lt, gave k)) in
+                let told = from_told k (takings d.rule d.wanted was) was.portions (omega (arith, lt, gave k)) in
                 let e = (exact kind m₀ h was had.1 k told.0 told.1).only told.2 in
                 ((told.0, told.1, e.0), e.1);
-            within_received = λ k. (leaves (drew rule wanted answer ∷ h) s had own k).in_all;
+            within_received = λ k. (leaves (drew d answer ∷ h) s had own k).in_all;
           },
           own_fair h was had.1 own.1,
         )
@@ -180,8 +180,8 @@ module _ {T : Type 0} (kind : Kind T) (m₀ : ℕ) where
 
     own_used : (h : History T) (s : Ledger T) → Had kind m₀ h s → Own kind m₀ way h → way_used way h ≡ Used h
     own_used [] s had own = refl
-    own_used (drew rule wanted answer ∷ h) s had own =
-        omega (arith, own_used h had.0 had.1 own.1, own_draw rule had.2.3 wanted h had.0 had.1 own.1 (own.0 had.0 had.1), had.2.1)
+    own_used (drew d answer ∷ h) s had own =
+        omega (arith, own_used h had.0 had.1 own.1, own_draw d.rule had.2.3 d.wanted h had.0 had.1 own.1 (own.0 had.0 had.1), had.2.1)
     own_used (_ ∷ h) s had own = own_used h had.0 had.1 own
 
     own_left : (h : History T) (s : Ledger T) → Had kind m₀ h s → Own kind m₀ way h → (m : ℕ) → way_left_from kind m₀ way h m ≡ left_from m s.portions

@@ -57,7 +57,7 @@ module _ {T : Type 0} where
       let was = had.0 in
       let met = enter_met amount was had.2.0 in
       (met.small, λ p. both_ways (has was.month was.portions) met.free (portion_told kind m₀ h was had.1 p))
-  refuses_rightly kind m₀ h (drew rule wanted answer) s had = (draw_met wanted had.0 had.2.0).small
+  refuses_rightly kind m₀ h (drew d answer) s had = (draw_met d.wanted had.0 had.2.0).small
   refuses_rightly kind m₀ h (turned refunded lost) s had =
       omega (arith, (turn_met had.0 had.2.0).early, month_is kind m₀ h had.0 had.1)
   refuses_rightly kind m₀ h (did (open_for slots month) _) s had = had.2.3
@@ -81,9 +81,9 @@ module _ {T : Type 0} where
           | inr y ↦ absurd (cc)
         ]
       ]
-  refuses_rightly kind m₀ h (refused (draw rule wanted) fault) s had =
-      elim (failed (leb wanted 1000000000) _ fault None (still had.0.opened _ fault _ (sound kind m₀ h had.0 had.1).is_open had.2.0))
-      [ inl x ↦ (ap store_number x.0, leb-false wanted 1000000000 x.1) | inr x ↦ absurd (cc) ]
+  refuses_rightly kind m₀ h (refused (draw d) fault) s had =
+      elim (failed (leb d.wanted 1000000000) _ fault None (still had.0.opened _ fault _ (sound kind m₀ h had.0 had.1).is_open had.2.0))
+      [ inl x ↦ (ap store_number x.0, leb-false d.wanted 1000000000 x.1) | inr x ↦ absurd (cc) ]
   refuses_rightly kind m₀ h (refused turn fault) s had =
       let ok = sound kind m₀ h had.0 had.1 in
       elim (failed (ltb had.0.month 1199) _ fault None (still had.0.opened _ fault _ ok.is_open had.2.0))

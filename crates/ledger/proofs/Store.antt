@@ -33,8 +33,8 @@ module _ {T : Type 0} (kind : Kind T) (law : LawfulKind kind) (m₀ : ℕ) where
   counts_lead (enter amount terms) _ h s a =
       let more = total-++ (λ (p : Portion T). p.left) s.portions (fresh s.month amount terms ∷ []) in
       record { entered_is = omega arith; used_is = a.so.used_is; refunded_is = a.so.refunded_is; lost_is = a.so.lost_is; balance = omega (arith, more) }
-  counts_lead (draw rule wanted) answer h s a =
-      let less = left_taking (takings rule wanted s) s.portions (within a.follows s.month (lefts s) wanted) in
+  counts_lead (draw d) answer h s a =
+      let less = left_taking (takings d.rule d.wanted s) s.portions (within a.follows s.month (lefts s) d.wanted) in
       record { entered_is = a.so.entered_is; used_is = omega (arith, a.told); refunded_is = a.so.refunded_is; lost_is = a.so.lost_is; balance = omega (arith, less) }
   counts_lead turn answer h s a =
       let cut = split_left s in
@@ -60,9 +60,9 @@ module _ {T : Type 0} (kind : Kind T) (m₀ : ℕ) where
       let ih = a.so in
       let none' = (enter_met amount s a.none).free in
       record { is_open = refl; month_is = ih.month_is; month_le = ih.month_le; rising = rising_push (fresh s.month amount terms) 0 s.portions (omega arith) (before_none s.month s.portions ih.up_to none') ih.rising; up_to = upto_push s.month (fresh s.month amount terms) (omega arith) s.portions ih.up_to }
-  sound_leads (draw rule wanted) _ h s a =
+  sound_leads (draw d) _ h s a =
       let ih = a.so in
-      record { is_open = refl; month_is = ih.month_is; month_le = ih.month_le; rising = rising_taking 0 (takings rule wanted s) s.portions ih.rising; up_to = upto_taking s.month (takings rule wanted s) s.portions ih.up_to }
+      record { is_open = refl; month_is = ih.month_is; month_le = ih.month_le; rising = rising_taking 0 (takings d.rule d.wanted s) s.portions ih.rising; up_to = upto_taking s.month (takings d.rule d.wanted s) s.portions ih.up_to }
   sound_leads turn _ h s a =
       let ih = a.so in
       let early = (turn_met s a.none).early in
@@ -86,11 +86,11 @@ module _ {T : Type 0} (kind : Kind T) (m₀ : ℕ) where
         only = λ e. elim (tells_push_back k a t new s.portions e) [ inl y ↦ (inl (sym at ∙ y.0, y.1, y.2), omega (arith, at, y.0)) | inr y ↦ (inr (ih.only y).0, (ih.only y).1) ];
         all = elim [ inl y ↦ (λ le. tells_push_new k a t new s.portions (at ∙ y.0, y.1, y.2)) | inr y ↦ (λ le. tells_push_old k a t new s.portions (ih.all y le)) ];
       }
-  exact_leads (draw rule wanted) _ h s x k a t =
+  exact_leads (draw d) _ h s x k a t =
       let ih = x.so k a t in
       record {
-        only = λ e. ih.only (tells_taking_back k a t (takings rule wanted s) s.portions e);
-        all = λ e le. tells_taking k a t (takings rule wanted s) s.portions (ih.all e le);
+        only = λ e. ih.only (tells_taking_back k a t (takings d.rule d.wanted s) s.portions e);
+        all = λ e le. tells_taking k a t (takings d.rule d.wanted s) s.portions (ih.all e le);
       }
   exact_leads turn _ h s x k a t =
       let ih = x.so k a t in

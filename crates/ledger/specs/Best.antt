@@ -11,8 +11,8 @@ use Rattle.ledger.specs.Ways.{Way, way_used, way_run_out}
 -- every accepted draw went oldest first: where the store stood at s before it, its rule gave those takings
 abbrev pub WentOldestFirst : {T : Type 0} → Kind T → ℕ → History T → Type 0
 WentOldestFirst kind m₀ [] = Unit {0}
-WentOldestFirst {T} kind m₀ (drew rule wanted answer ∷ h) =
-    ((s : Ledger T) → Had kind m₀ h s → takings rule wanted s ≡ oldest (lefts s) wanted) × WentOldestFirst kind m₀ h
+WentOldestFirst {T} kind m₀ (drew d answer ∷ h) =
+    ((s : Ledger T) → Had kind m₀ h s → takings d.rule d.wanted s ≡ oldest (lefts s) d.wanted) × WentOldestFirst kind m₀ h
 WentOldestFirst kind m₀ (_ ∷ h) = WentOldestFirst kind m₀ h
 
 -- another way has used at most as much as the store's answers say, and let at least as much run out

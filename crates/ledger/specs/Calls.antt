@@ -4,27 +4,27 @@ use Rattle.faults.specs.declared.StoreFault.{StoreFault}
 use Rattle.faults.specs.declared.StoreFault.TheVariants.{TooFewSlots, NotOpen, MonthOutOfRange, AmountTooLarge, MonthTaken, WantedTooLarge, LastMonth}
 pub use Rattle.histories.specs.Machines.{asks, answers, becomes}
 use Rattle.ledger.specs.Kinds.{Kind}
-use Rattle.ledger.specs.Rules.{Rule, LawfulRule}
+use Rattle.ledger.specs.Rules.{Draw, LawfulRule}
 use Rattle.ledger.specs.Ledger.{Ledger, has}
 
 -- a call with its arguments; an opening is of a store that has so many slots
 pub data Call (T : Type 0) : Type 0 where
   open_for : (slots : ℕ) (month : ℕ) → Call T
   enter : (amount : ℕ) (terms : T) → Call T
-  draw : (rule : Rule) (wanted : ℕ) → Call T
+  draw : (d : Draw) → Call T
   turn : Call T
 
 module _ {T : Type 0} where
   -- what an accepted call answers
   abbrev pub Answer : Call T → Type 0
-  Answer (draw rule wanted) = ℕ
+  Answer (draw d) = ℕ
   Answer turn = ℕ × ℕ
   Answer _ = Unit {0}
 
   -- the calls that may be accepted after an opening: any with lawful rules, but no further opening
   abbrev pub Follows : Call T → Type 0
   Follows (open_for slots month) = ⊥
-  Follows (draw rule wanted) = LawfulRule rule
+  Follows (draw d) = LawfulRule d.rule
   Follows _ = Unit {0}
 
   -- an opening asks for a slot more than the life has months, and for a month from 47 to 1,199
@@ -47,5 +47,5 @@ module _ {T : Type 0} where
   abbrev pub refusal : Kind T → Call T → Ledger T → Option StoreFault
   refusal kind (open_for slots month) s = open_refusal kind slots month
   refusal kind (enter amount terms) s = enter_refusal amount s
-  refusal kind (draw rule wanted) s = draw_refusal wanted s
+  refusal kind (draw d) s = draw_refusal d.wanted s
   refusal kind turn s = turn_refusal s

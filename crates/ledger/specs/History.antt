@@ -4,7 +4,7 @@ use Rattle.faults.specs.declared.StoreFault.{StoreFault}
 use Rattle.histories.specs.Histories as histories
 use Rattle.histories.specs.Histories.Event.{did}
 use Rattle.ledger.specs.Kinds.{Kind}
-use Rattle.ledger.specs.Rules.{Rule}
+use Rattle.ledger.specs.Rules.{Draw}
 use Rattle.ledger.specs.Ledger.{Ledger}
 use Rattle.ledger.specs.Calls.{Call, Answer}
 use Rattle.ledger.specs.Calls.Call.{enter, draw, turn}
@@ -23,8 +23,8 @@ module _ {T : Type 0} where
   pattern abbrev pub entered : ℕ → T → Event T
   entered amount terms = did (enter amount terms) tt
 
-  pattern abbrev pub drew : Rule → ℕ → ℕ → Event T
-  drew rule wanted answer = did (draw rule wanted) answer
+  pattern abbrev pub drew : Draw → ℕ → Event T
+  drew d answer = did (draw d) answer
 
   pattern abbrev pub turned : ℕ → ℕ → Event T
   turned refunded lost = did turn (refunded, lost)

@@ -16,14 +16,14 @@ module _ {T : Type 0} where
   -- after the calls h this event is accepted or refused as it should be, by the smallest number that applies
   abbrev pub Rightly : Kind T → ℕ → History T → Event T → Type 0
   Rightly kind m₀ h (entered amount terms) = (amount ≤ 100000000) × (HasPortion m₀ h → ⊥)
-  Rightly kind m₀ h (drew rule wanted answer) = wanted ≤ 1000000000
+  Rightly kind m₀ h (drew d answer) = d.wanted ≤ 1000000000
   Rightly kind m₀ h (turned refunded lost) = reached m₀ h < 1199
   Rightly kind m₀ h (did (open_for slots month) _) = ⊥
   Rightly kind m₀ h (refused (open_for slots month) fault) =
       ((store_number fault ≡ 1) × (slots ≤ kind.life)) ⊎ ((store_number fault ≡ 2) × (kind.life < slots) × ((month < 47) ⊎ (1199 < month)))
   Rightly kind m₀ h (refused (enter amount terms) fault) =
       ((store_number fault ≡ 3) × (100000000 < amount)) ⊎ ((store_number fault ≡ 4) × (amount ≤ 100000000) × HasPortion m₀ h)
-  Rightly kind m₀ h (refused (draw rule wanted) fault) = (store_number fault ≡ 5) × (1000000000 < wanted)
+  Rightly kind m₀ h (refused (draw d) fault) = (store_number fault ≡ 5) × (1000000000 < d.wanted)
   Rightly kind m₀ h (refused turn fault) = (store_number fault ≡ 6) × (reached m₀ h ≡ 1199)
 
   -- every call was accepted or refused as it should have been

@@ -6,6 +6,11 @@ use Rattle.portions.specs.Sums.{sum}
 abbrev pub Rule : Type 0
 Rule = ℕ → List ℕ → ℕ → List ℕ
 
+-- what a draw is given: the rule that it goes by, and the amount wanted
+pub record Draw : Type 0 where
+  pub rule : Rule
+  pub wanted : ℕ
+
 -- the law of rules: a taking for each portion, none more than its portion's amount left, and together the smaller of
 -- the amount wanted and the total left
 pub record LawfulRule (rule : Rule) : Type 0 where

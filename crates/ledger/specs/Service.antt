@@ -19,8 +19,8 @@ module _ {T : Type 0} where
   -- the way is the store's own: in each accepted draw it takes what the rule gave
   abbrev pub Own : Kind T → ℕ → Way → History T → Type 0
   Own kind m₀ way [] = Unit {0}
-  Own kind m₀ way (drew rule wanted answer ∷ h) =
-      ((s : Ledger T) → Had kind m₀ h s → (k : ℕ) → way (length h) k ≡ taken_from k (takings rule wanted s) s.portions) × Own kind m₀ way h
+  Own kind m₀ way (drew d answer ∷ h) =
+      ((s : Ledger T) → Had kind m₀ h s → (k : ℕ) → way (length h) k ≡ taken_from k (takings d.rule d.wanted s) s.portions) × Own kind m₀ way h
   Own kind m₀ way (_ ∷ h) = Own kind m₀ way h
 
   -- what is left in the open portions of month m and later

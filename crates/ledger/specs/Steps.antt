@@ -79,7 +79,7 @@ module _ {T : Type 0} where
 
   -- what a call answers where it is accepted
   abbrev pub answer : Kind T → (call : Call T) → Ledger T → Answer call
-  answer kind (draw rule wanted) s = sum (takings rule wanted s)
+  answer kind (draw d) s = sum (takings d.rule d.wanted s)
   answer kind turn s = (refunds kind s, losses kind s)
   answer kind _ s = tt
 
@@ -87,7 +87,7 @@ module _ {T : Type 0} where
   abbrev pub after : Kind T → Call T → Ledger T → Ledger T
   after kind (open_for slots month) s = opening month
   after kind (enter amount terms) s = entering amount terms s
-  after kind (draw rule wanted) s = drawing (takings rule wanted s) s
+  after kind (draw d) s = drawing (takings d.rule d.wanted s) s
   after kind turn s = turning kind s
 
   -- a store of this kind, opened for a month, as a machine

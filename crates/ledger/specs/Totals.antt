@@ -13,7 +13,7 @@ module _ {T : Type 0} where
   -- used: the answers of the accepted draws
   abbrev pub Used : History T → ℕ
   Used [] = 0
-  Used (drew rule wanted answer ∷ h) = Used h + answer
+  Used (drew d answer ∷ h) = Used h + answer
   Used (_ ∷ h) = Used h
 
   -- refunded: the first answers of the accepted turns

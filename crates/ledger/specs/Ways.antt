@@ -22,13 +22,13 @@ module _ {T : Type 0} where
   -- what a way has taken, over all draws, from the portion of month k
   abbrev pub taken : Way → History T → ℕ → ℕ
   taken way [] k = 0
-  taken way (drew rule wanted answer ∷ h) k = taken way h k + way (length h) k
+  taken way (drew d answer ∷ h) k = taken way h k + way (length h) k
   taken way (_ ∷ h) k = taken way h k
 
   -- what a way has used: the sum of its takings
   abbrev pub way_used : Way → History T → ℕ
   way_used way [] = 0
-  way_used way (drew rule wanted answer ∷ h) = way_used way h + over_months (way (length h))
+  way_used way (drew d answer ∷ h) = way_used way h + over_months (way (length h))
   way_used way (_ ∷ h) = way_used way h
 
   -- the portion of month k was entered, and no turn has taken the month past its life
@@ -45,7 +45,7 @@ module _ {T : Type 0} where
   -- a way is fair if its takings in each accepted draw are
   abbrev pub Fair : Kind T → ℕ → Way → History T → Type 0
   Fair kind m₀ way [] = Unit {0}
-  Fair kind m₀ way (drew rule wanted answer ∷ h) = FairDraw kind m₀ h wanted (taken way h) (way (length h)) × Fair kind m₀ way h
+  Fair kind m₀ way (drew d answer ∷ h) = FairDraw kind m₀ h d.wanted (taken way h) (way (length h)) × Fair kind m₀ way h
   Fair kind m₀ way (_ ∷ h) = Fair kind m₀ way h
 
   -- what a way leaves of the portion of month k

@@ -6,6 +6,7 @@ use Rattle.histories.specs.Histories as histories
 use Rattle.histories.specs.Histories.{Always}
 use Rattle.histories.specs.Histories.Event.{did, refused}
 use Rattle.histories.proofs.Runs.{always}
+use Rattle.ledger.specs.Rules as rules
 use Rattle.ledger.specs.Rules.{Rule, LawfulRule}
 use Rattle.ledger.specs.Ledger.{Ledger, left_in, lefts}
 use Rattle.ledger.specs.Best.{WentOldestFirst}
@@ -65,18 +66,18 @@ module _ {O A S Z T : Type 0} (works : Workings O A S Z T) where
 
   module _ (rule : Rule) (z : Z) (calls : store.History T) where
     -- what draws leave as it is
-    past_draws : (f : store.History T → ℕ) → ((wanted used : ℕ) (h : store.History T) → f (store.drew rule wanted used ∷ h) ≡ f h) → (ds : List (Draw Z)) → f (draws_on works z rule ds ++ calls) ≡ f calls
+    past_draws : (f : store.History T → ℕ) → ((given : rules.Draw) (used : ℕ) (h : store.History T) → f (store.drew given used ∷ h) ≡ f h) → (ds : List (Draw Z)) → f (draws_on works z rule ds ++ calls) ≡ f calls
     past_draws f same [] = refl
     past_draws f same (d ∷ ds) =
         let ih = past_draws f same ds in
-        elim (eqb (works.place d.from) (works.place z)) as (λ b. f (cond b (store.drew rule d.wanted d.used ∷ draws_on works z rule ds) (draws_on works z rule ds) ++ calls) ≡ f calls)
-        [ true ↦ same d.wanted d.used (draws_on works z rule ds ++ calls) ∙ ih | false ↦ ih ]
+        elim (eqb (works.place d.from) (works.place z)) as (λ b. f (cond b (store.drew (record { rule = rule; wanted = d.wanted }) d.used ∷ draws_on works z rule ds) (draws_on works z rule ds) ++ calls) ≡ f calls)
+        [ true ↦ same (record { rule = rule; wanted = d.wanted }) d.used (draws_on works z rule ds ++ calls) ∙ ih | false ↦ ih ]
 
     draws_accepted : (ds : List (Draw Z)) → NoneRefused calls → NoneRefused (draws_on works z rule ds ++ calls)
     draws_accepted [] none = none
     draws_accepted (d ∷ ds) none =
         let ih = draws_accepted ds none in
-        elim (eqb (works.place d.from) (works.place z)) as (λ b. NoneRefused (cond b (store.drew rule d.wanted d.used ∷ draws_on works z rule ds) (draws_on works z rule ds) ++ calls)) [ true ↦ ih | false ↦ ih ]
+        elim (eqb (works.place d.from) (works.place z)) as (λ b. NoneRefused (cond b (store.drew (record { rule = rule; wanted = d.wanted }) d.used ∷ draws_on works z rule ds) (draws_on works z rule ds) ++ calls)) [ true ↦ ih | false ↦ ih ]
 
     draws_old : (m₀ : ℕ) → ((ls : List ℕ) (want : ℕ) → rule (store.reached m₀ calls) ls want ≡ oldest ls want) → WentOldestFirst works.kind m₀ calls → (ds : List (Draw Z)) → WentOldestFirst works.kind m₀ (draws_on works z rule ds ++ calls)
     draws_old m₀ old went [] = went
@@ -86,7 +87,7 @@ module _ {O A S Z T : Type 0} (works : Workings O A S Z T) where
         let month : store.reached m₀ before ≡ store.reached m₀ calls = past_draws (store.reached m₀) (λ wanted used h. refl) ds in
         let here : (s : Ledger T) → store.Had works.kind m₀ before s → takings rule d.wanted s ≡ oldest (lefts s) d.wanted = λ s had.
         subst (λ m. rule m (lefts s) d.wanted ≡ oldest (lefts s) d.wanted) (sym month ∙ sym (sound works.kind m₀ before s had).month_is) (old (lefts s) d.wanted) in
-        elim (eqb (works.place d.from) (works.place z)) as (λ b. WentOldestFirst works.kind m₀ (cond b (store.drew rule d.wanted d.used ∷ draws_on works z rule ds) (draws_on works z rule ds) ++ calls)) [ true ↦ (here, ih) | false ↦ ih ]
+        elim (eqb (works.place d.from) (works.place z)) as (λ b. WentOldestFirst works.kind m₀ (cond b (store.drew (record { rule = rule; wanted = d.wanted }) d.used ∷ draws_on works z rule ds) (draws_on works z rule ds) ++ calls)) [ true ↦ (here, ih) | false ↦ ih ]
 
   module _ (o : O) (z : Z) where
     -- the calls on a store enter what the enters have for it

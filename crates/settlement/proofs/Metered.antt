@@ -112,7 +112,7 @@ module _ (o : MeterOpening) (m : ℕ) (calls : Zone → store.History (Unit {0})
       let so_far : Zone → ℕ → ℕ = λ z k. took metering o rule z (calls z) ds k in
       let less_here : Less (λ k. so_far from k + taken_from k takes stock.portions) before drawn.portions = less_taking (so_far from) 0 takes before stock.portions (rising from) (within law stock.month (lefts stock) (wanted c rest)) (st.less from) in
       record {
-        had = put_either (λ b z s. store.Had energy o.month (cond b (store.drew rule (wanted c rest) (sum takes) ∷ draws_on metering z rule ds) (draws_on metering z rule ds) ++ calls z) s) from drawn course.stores
+        had = put_either (λ b z s. store.Had energy o.month (cond b (store.drew (record { rule = rule; wanted = wanted c rest }) (sum takes) ∷ draws_on metering z rule ds) (draws_on metering z rule ds) ++ calls z) s) from drawn course.stores
             (had_draw energy o.month (now from) stock (st.had from) rule law (wanted c rest) (wanted_small c rest low high (st.few zone))) st.had;
         months = put_holds (λ z s. s.month ≡ m) from drawn course.stores (st.months from) st.months;
         few = λ z. omega (arith, cover_rests rule law c (omega arith) zone from course z, st.few z);

@@ -29,9 +29,9 @@ module _ {T : Type 0} (kind : Kind T) (m₀ : ℕ) (calls : History T) (s : Ledg
       let none' : refusal kind (enter amount terms) s ≡ None = simp (is_open, le-leb amount 100000000 small, free) in
       (s, had, (none', refl, refl, tt))
 
-  pub had_draw : (rule : Rule) → LawfulRule rule → (w : ℕ) → w ≤ 1000000000 → Had kind m₀ (drew rule w (sum (takings rule w s)) ∷ calls) (drawing (takings rule w s) s)
+  pub had_draw : (rule : Rule) → LawfulRule rule → (w : ℕ) → w ≤ 1000000000 → Had kind m₀ (drew (record { rule = rule; wanted = w }) (sum (takings rule w s)) ∷ calls) (drawing (takings rule w s) s)
   had_draw rule law w small =
-      let none' : refusal kind (draw rule w) s ≡ None = simp (is_open, le-leb w 1000000000 small) in
+      let none' : refusal kind (draw (record { rule = rule; wanted = w })) s ≡ None = simp (is_open, le-leb w 1000000000 small) in
       (s, had, (none', refl, refl, law))
 
   pub had_turn : s.month < 1199 → Had kind m₀ (turned (refunds kind s) (losses kind s) ∷ calls) (turning kind s)

@@ -23,7 +23,7 @@ module _ {O A S Z T : Type 0} (works : Workings O A S Z T) where
   -- of these draws by a rule, those on the store of z
   abbrev pub draws_on : Z → Rule → List (Draw Z) → store.History T
   draws_on z rule [] = []
-  draws_on z rule (d ∷ ds) = cond (works.place d.from == works.place z) (store.drew rule d.wanted d.used ∷ draws_on z rule ds) (draws_on z rule ds)
+  draws_on z rule (d ∷ ds) = cond (works.place d.from == works.place z) (store.drew (record { rule = rule; wanted = d.wanted }) d.used ∷ draws_on z rule ds) (draws_on z rule ds)
 
   -- the calls on the store of z that an event means, where the account is at a: a refused call means none
   abbrev pub calls_in : O → Z → A → Event O S → store.History T

@@ -98,11 +98,11 @@ module _ {K T : Type 0} {k : Ghosts K T} (s : Store K T k) (rule : Rule) (law : 
         )
 
     -- where nothing refuses it, a draw takes what the rule gives
-    pub drawn_answer : draw_refusal w (ledger_of k s) ≡ None → Ok n ≡ gives (machine (kind_of k)) (draw rule w) (ledger_of k s)
+    pub drawn_answer : draw_refusal w (ledger_of k s) ≡ None → Ok n ≡ gives (machine (kind_of k)) (draw (record { rule = rule; wanted = w })) (ledger_of k s)
     drawn_answer none = ap Ok (summed ∙ ap sum gave) ∙ ap (λ x. answers x (sum (takings rule w (ledger_of k s)))) (sym none)
 
     pub drawn_after : draw_refusal w (ledger_of k s) ≡ None → (totals' : Totals) → totals' ≡ more_used s.totals n →
-        read_off k rows' s.opened s.month totals' ≡ leaves (machine (kind_of k)) (draw rule w) (ledger_of k s)
+        read_off k rows' s.opened s.month totals' ≡ leaves (machine (kind_of k)) (draw (record { rule = rule; wanted = w })) (ledger_of k s)
     drawn_after none totals' counted =
         let l = ledger_of k s in
         let o = (draw_met w l none).is_open in

@@ -64,10 +64,10 @@ impl<'a, K: Kind> Store<'a, K> {
 
     // Takes what the rule gives: the sum taken. Rule and amount are a draw's two arguments, a generic and a number, so no struct of them.
     pub fn draw<R: Rule>(&mut self, rule: &R, wanted: u32) -> Result<u64, StoreFault>
-        ensures answer { result ≡ gives (machine (kind_of K.Kind)) (draw (R.Rule.gives rule.now) wanted) (ledger_of K.Kind self.old) }
-        ensures state { ledger_of K.Kind self.new ≡ leaves (machine (kind_of K.Kind)) (draw (R.Rule.gives rule.now) wanted) (ledger_of K.Kind self.old) }
+        ensures answer { result ≡ gives (machine (kind_of K.Kind)) (draw (record { rule = R.Rule.gives rule.now; wanted = wanted })) (ledger_of K.Kind self.old) }
+        ensures state { ledger_of K.Kind self.new ≡ leaves (machine (kind_of K.Kind)) (draw (record { rule = R.Rule.gives rule.now; wanted = wanted })) (ledger_of K.Kind self.old) }
         ensures slots { Accounted (is_ok result) self.old self.new }
-        ensures promised { Keeps (kind_of K.Kind) (ledger_of K.Kind self.old) (event (draw (R.Rule.gives rule.now) wanted) result) (ledger_of K.Kind self.new) }
+        ensures promised { Keeps (kind_of K.Kind) (ledger_of K.Kind self.old) (event (draw (record { rule = R.Rule.gives rule.now; wanted = wanted })) result) (ledger_of K.Kind self.new) }
     {
         self.may_draw(wanted)?;
         let left = self.lefts();

@@ -12,7 +12,7 @@ returns-in_err-may_draw-clause-promised g c =
     let laws = g.met.K.Kind in
     let r = c.args.rule.now in
     let rule = g.met.R.Rule in
-    keeps (kind_of g.K.Kind) (lawful g.K.Kind laws.lasting laws.short laws.within) _ _ (draw _ _) (lawful_rule (g.R.Rule.gives r) (rule.sized r) (rule.bounded r) (rule.full r)) _ (search rules) (search rules)
+    keeps (kind_of g.K.Kind) (lawful g.K.Kind laws.lasting laws.short laws.within) _ _ (draw _) (lawful_rule (g.R.Rule.gives r) (rule.sized r) (rule.bounded r) (rule.full r)) _ (search rules) (search rules)
 
 pub invariant_of-self : goal.invariant_of-self
 invariant_of-self g c =
@@ -43,4 +43,4 @@ returns-clause-promised g c =
     let none = accepted _ _ _ c.in_ok-may_draw.ensures in
     let answer = drawn_answer s gives lawful_gives w _ gave _ c.total-sum.ensures c.take_each.new.self e.front none in
     let state = drawn_after s gives lawful_gives w _ gave _ c.total-sum.ensures c.take_each.new.self e.front none _ c.add_used.ensures in
-    keeps (kind_of g.K.Kind) (lawful g.K.Kind laws.lasting laws.short laws.within) l _ (draw gives w) lawful_gives _ answer state
+    keeps (kind_of g.K.Kind) (lawful g.K.Kind laws.lasting laws.short laws.within) l _ (draw (record { rule = gives; wanted = w })) lawful_gives _ answer state
