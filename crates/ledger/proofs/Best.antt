@@ -2,9 +2,10 @@
 use Rattle.std.proofs.Common.{◌≡◌, ℕ, ◌+◌, ◌-◌, ◌<◌, ◌≤◌, min, max, Bool, true, false, cond, ◌&&◌, eqb, ltb, leb, List, [], ◌∷◌, length, filter, sym, refl, ap, ◌∙◌, subst, arith}
 use Rattle.std.proofs.lemmas.Bool.{leb-true}
 use Rattle.std.proofs.lemmas.Bool.Decides.{nat_tests}
-use Rattle.portions.specs.Sums.{total}
+use Rattle.portions.specs.Sums.{total, sum}
 use Rattle.portions.specs.Portions.{Portion, fresh}
 use Rattle.portions.specs.Taking.{oldest}
+use Rattle.portions.specs.Takes.{oldest_sum}
 use Rattle.portions.specs.Totals.{total-++, total_parts}
 use Rattle.ledger.specs.Kinds.{Kind, LawfulKind}
 use Rattle.ledger.specs.Rules.{Draw}
@@ -135,7 +136,7 @@ module _ {T : Type 0} (kind : Kind T) (m₀ : ℕ) (way : Way) where
       let ih = a.so went.1 fair.1 in
       let ok = sound kind m₀ h s a.had in
       let gave = went.0 s a.had in
-      let took = a.told ∙ a.follows.full s.month d.wanted (lefts s) in
+      let took = a.told ∙ ap sum gave ∙ oldest_sum (lefts s) d.wanted in
       let goal : List ℕ → Type 0 = λ xs. way_used way (drew d answer ∷ h) + way_left_drew d answer h m ≤ Used h + answer + left_from m (taking xs s.portions) in
       subst goal (sym gave)
       (omega (

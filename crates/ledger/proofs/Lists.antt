@@ -1,6 +1,7 @@
 -- Lemmas on totals, takings and months of lists of portions.
 use Rattle.std.proofs.Common.{◌≡◌, ℕ, suc, ◌+◌, ◌<◌, ◌≤◌, Bool, true, false, cond, not, eqb, ltb, ◌⊎◌, List, [], ◌∷◌, ◌++◌, map, length, get_or, filter, sym, refl, ap, subst, inl, inr, arith}
 use Rattle.std.proofs.lemmas.Bool.{ltb-true, ltb-false, eqb-false, le-ltb, not-true, not-false}
+use Rattle.portions.specs.declared.TheConstants.{MOST_OPEN}
 use Rattle.portions.specs.Sums.{sum}
 use Rattle.portions.specs.Portions.{Portion}
 use Rattle.ledger.specs.Rules.{Rule, LawfulRule}
@@ -35,8 +36,8 @@ within_each [] (a ∷ rest) n b = absurd (omega (arith, n))
 within_each (x ∷ xs) [] n b = absurd (omega (arith, n))
 within_each (x ∷ xs) (a ∷ rest) n b = (b 0, within_each xs rest (omega (arith, n)) (λ i. b (suc i)))
 
-pub within : {rule : Rule} → LawfulRule rule → (m : ℕ) (ls : List ℕ) (w : ℕ) → Within (rule m ls w) ls
-within {rule} law m ls w = within_each (rule m ls w) ls (law.sized m w ls) (law.bounded m w ls)
+pub within : {rule : Rule} → LawfulRule rule → (m : ℕ) (ls : List ℕ) (w : ℕ) → length ls ≤ MOST_OPEN → Within (rule m ls w) ls
+within {rule} law m ls w few = within_each (rule m ls w) ls (law.sized m w ls few) (law.bounded m w ls few)
 
 module _ {T : Type 0} where
   abbrev pub amounts_left_in : List (Portion T) → List ℕ

@@ -17,7 +17,7 @@ use Rattle.ledger.specs.Ways.{Way, over_months, taken, way_used, Fair, remains, 
 use Rattle.ledger.specs.Service.{taken_from, Own, left_from, ServesFairly}
 use Rattle.histories.proofs.Runs.{history_decides, Leads, holds}
 use Rattle.ledger.proofs.Lists.{Within, within, amounts_left_in, UpTo, stays_le, stays_gt}
-use Rattle.ledger.proofs.Store.{counts, sound, exact}
+use Rattle.ledger.proofs.Store.{few_lefts, counts, sound, exact}
 use Rattle.ledger.proofs.Sums.{sum_zero, sum_same, sum-+, sum_one}
 
 module _ {T : Type 0} where
@@ -119,7 +119,7 @@ module _ {T : Type 0} (kind : Kind T) (m₀ : ℕ) where
       omega (arith, received_sum h had.0 had.1, one, both)
   received_sum (_ ∷ h) s had = received_sum h had.0 had.1
 
-  module _ (way : Way) where
+  module _ (law : LawfulKind kind) (way : Way) where
     -- what the way leaves of an open portion is what the store tells as left
     pub record Leaves (h : History T) (s : Ledger T) (k : ℕ) : Type 0 where
       pub in_all : taken way h k ≤ received m₀ h k
@@ -139,7 +139,7 @@ module _ {T : Type 0} (kind : Kind T) (m₀ : ℕ) where
         let le = ih.in_all in
         let eq = ih.open_left in
         let gave = own.0 s a.had k in
-        let less = left_at_taking k (takings d.rule d.wanted s) s.portions (within a.follows s.month (lefts s) d.wanted) in
+        let less = left_at_taking k (takings d.rule d.wanted s) s.portions (within a.follows s.month (lefts s) d.wanted (few_lefts kind law m₀ h s a.had)) in
         record { in_all = grind (arith, nat_tests); open_left = grind (arith, nat_tests) }
     leaves_lead k turn _ h s a own =
         let ih = a.so own in
@@ -159,7 +159,7 @@ module _ {T : Type 0} (kind : Kind T) (m₀ : ℕ) where
     own_draw rule lawful wanted h s had own gave =
         let ok = sound kind m₀ h s had in
         sum_same 1200 (way (length h)) (λ k. taken_from k (takings rule wanted s) s.portions) gave
-        ∙ sum_taken_from (takings rule wanted s) s.portions (within lawful s.month (lefts s) wanted) s.month (omega (arith, ok.month_le)) ok.up_to
+        ∙ sum_taken_from (takings rule wanted s) s.portions (within lawful s.month (lefts s) wanted (few_lefts kind law m₀ h s had)) s.month (omega (arith, ok.month_le)) ok.up_to
 
     own_fair : (h : History T) (s : Ledger T) → Had kind m₀ h s → Own kind m₀ way h → Fair kind m₀ way h
     own_fair [] s had own = tt
@@ -167,7 +167,7 @@ module _ {T : Type 0} (kind : Kind T) (m₀ : ℕ) where
         let was = had.0 in
         let gave = own.0 was had.1 in (
           record {
-            at_most_wanted = omega (arith, own_draw d.rule had.2.3 d.wanted h was had.1 own.1 gave, had.2.3.full was.month d.wanted (lefts was));
+            at_most_wanted = omega (arith, own_draw d.rule had.2.3 d.wanted h was had.1 own.1 gave, had.2.3.full was.month d.wanted (lefts was) (few_lefts kind law m₀ h was had.1));
             from_open = λ k lt.
                 let told = from_told k (takings d.rule d.wanted was) was.portions (omega (arith, lt, gave k)) in
                 let e = (exact kind m₀ h was had.1 k told.0 told.1).only told.2 in
@@ -195,8 +195,8 @@ module _ {T : Type 0} (kind : Kind T) (m₀ : ℕ) where
         let goal : cond (leb m k && leb (reached m₀ h) (k + kind.life)) (remains m₀ way h k) 0 ≡ cond (leb m k) in' 0 = grind (arith, nat_tests) in goal)
         ∙ sum_left_at m s.portions s.month (omega (arith, ok.month_le)) ok.up_to
 
-    own_run_out : LawfulKind kind → (h : History T) (s : Ledger T) → Had kind m₀ h s → Own kind m₀ way h → way_run_out kind m₀ way h ≡ Refunded h + Lost h
-    own_run_out law h s had own =
+    own_run_out : (h : History T) (s : Ledger T) → Had kind m₀ h s → Own kind m₀ way h → way_run_out kind m₀ way h ≡ Refunded h + Lost h
+    own_run_out h s had own =
         let ended : ℕ → ℕ = λ k. cond (ltb (k + kind.life) (reached m₀ h)) (remains m₀ way h k) 0 in
         let open' : ℕ → ℕ = λ k. cond (leb 0 k && leb (reached m₀ h) (k + kind.life)) (remains m₀ way h k) 0 in
         let each = sum_same 1200 (received m₀ h) (λ k. (taken way h k + ended k) + open' k) (λ k. let le = (leaves h s had own k).in_all in grind (arith, nat_tests)) in
@@ -226,8 +226,8 @@ module _ {T : Type 0} (kind : Kind T) (m₀ : ℕ) where
 module _ {T : Type 0} (kind : Kind T) (law : LawfulKind kind) (m₀ : ℕ) where
   pub serves_fairly : (h : History T) (s : Ledger T) → Had kind m₀ h s → (way : Way) → Own kind m₀ way h → ServesFairly kind m₀ h s way
   serves_fairly h s had way own = record {
-    fair = own_fair kind m₀ way h s had own;
-    same_used = own_used kind m₀ way h s had own;
-    same_run_out = own_run_out kind m₀ way law h s had own;
-    same_left = λ m. own_left kind m₀ way h s had own m;
+    fair = own_fair kind m₀ law way h s had own;
+    same_used = own_used kind m₀ law way h s had own;
+    same_run_out = own_run_out kind m₀ law way h s had own;
+    same_left = λ m. own_left kind m₀ law way h s had own m;
   }

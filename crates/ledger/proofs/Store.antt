@@ -1,5 +1,7 @@
 -- What every store keeps from call to call: its totals, its balance, and which portions it tells.
 use Rattle.std.proofs.Common.{◌≡◌, ℕ, ◌+◌, ◌-◌, ◌≤◌, true, List, [], ◌∷◌, length, filter, sym, refl, ap, ◌∙◌, inl, inr, arith}
+use Rattle.std.proofs.lemmas.List.{length-map}
+use Rattle.portions.specs.declared.TheConstants.{MOST_OPEN}
 use Rattle.portions.specs.Portions.{Portion, fresh}
 use Rattle.portions.specs.Totals.{total-++, total_split, total_parts}
 use Rattle.histories.proofs.Runs.{Leads, holds}
@@ -12,38 +14,6 @@ use Rattle.ledger.specs.Totals.{Entered, Used, Refunded, Lost, Balanced}
 use Rattle.ledger.specs.Told.{WasEntered, Tells, RisingFrom, TellsExactly}
 use Rattle.ledger.proofs.Asked.{enter_met, turn_met}
 use Rattle.ledger.proofs.Lists.{within, left_taking, UpTo, upto_more, upto_push, upto_taking, upto_kept, before_none, rising_push, rising_taking, rising_kept, tells_push_back, tells_push_new, tells_push_old, tells_taking, tells_taking_back, tells_kept, tells_kept_back}
-
-module _ {T : Type 0} (kind : Kind T) (law : LawfulKind kind) (m₀ : ℕ) where
-  -- the totals told are those of the history, and they balance
-  pub record Counts (h : History T) (s : Ledger T) : Type 0 where
-    pub entered_is : s.entered ≡ Entered h
-    pub used_is : s.used ≡ Used h
-    pub refunded_is : s.refunded ≡ Refunded h
-    pub lost_is : s.lost ≡ Lost h
-    pub balance : s.entered ≡ s.used + s.refunded + s.lost + left_in s.portions
-
-  split_left : (s : Ledger T) → left_in s.portions ≡ left_in (turning kind s).portions + (refunds kind s + losses kind s)
-  split_left s =
-      let parts = total_parts (λ (p : Portion T). p.left) kind.refund (loss kind) (λ p. omega (arith, law.refund_within p)) (ending kind s) in
-      let cut = total_split (λ (p : Portion T). p.left) (ends_by kind.life (s.month + 1)) s.portions in
-      omega (arith, parts, cut)
-
-  counts_lead : Leads (machine kind) m₀ Counts
-  counts_lead (open_for slots month) _ h s a = absurd a.follows
-  counts_lead (enter amount terms) _ h s a =
-      let more = total-++ (λ (p : Portion T). p.left) s.portions (fresh s.month amount terms ∷ []) in
-      record { entered_is = omega arith; used_is = a.so.used_is; refunded_is = a.so.refunded_is; lost_is = a.so.lost_is; balance = omega (arith, more) }
-  counts_lead (draw d) answer h s a =
-      let less = left_taking (takings d.rule d.wanted s) s.portions (within a.follows s.month (lefts s) d.wanted) in
-      record { entered_is = a.so.entered_is; used_is = omega (arith, a.told); refunded_is = a.so.refunded_is; lost_is = a.so.lost_is; balance = omega (arith, less) }
-  counts_lead turn answer h s a =
-      let cut = split_left s in
-      let refunded = ap (λ (x : ℕ × ℕ). x.0) a.told in
-      let lost = ap (λ (x : ℕ × ℕ). x.1) a.told in
-      record { entered_is = a.so.entered_is; used_is = a.so.used_is; refunded_is = omega (arith, refunded); lost_is = omega (arith, lost); balance = omega (arith, cut) }
-
-  pub counts : (h : History T) (s : Ledger T) → Had kind m₀ h s → Counts h s
-  counts = holds (machine kind) m₀ Counts (λ opens. record { entered_is = refl; used_is = refl; refunded_is = refl; lost_is = refl; balance = refl }) counts_lead (λ call fault h s so. assumption)
 
 module _ {T : Type 0} (kind : Kind T) (m₀ : ℕ) where
   -- the month told is the one reached, and the open portions stand in its order
@@ -125,8 +95,46 @@ module _ {T : Type 0} where
       let c = sound kind m₀ h s had in
       few_from kind.life s.month s.portions c.rising c.up_to (λ k a t told. omega (arith, c.month_is, ((exact kind m₀ h s had k a t).only told).1))
 
+-- a store has no more portions open than the law of rules speaks of
+abbrev pub Few : {T : Type 0} → Ledger T → Type 0
+Few s = length (lefts s) ≤ MOST_OPEN
+
 module _ {T : Type 0} (kind : Kind T) (law : LawfulKind kind) (m₀ : ℕ) where
+  pub few_lefts : (h : History T) (s : Ledger T) → Had kind m₀ h s → Few s
+  few_lefts h s had = omega (arith, length-map s.portions (λ (p : Portion T). p.left), few_open kind m₀ h s had, law.life_to)
+
+  -- the totals told are those of the history, and they balance
+  pub record Counts (h : History T) (s : Ledger T) : Type 0 where
+    pub entered_is : s.entered ≡ Entered h
+    pub used_is : s.used ≡ Used h
+    pub refunded_is : s.refunded ≡ Refunded h
+    pub lost_is : s.lost ≡ Lost h
+    pub balance : s.entered ≡ s.used + s.refunded + s.lost + left_in s.portions
+
+  split_left : (s : Ledger T) → left_in s.portions ≡ left_in (turning kind s).portions + (refunds kind s + losses kind s)
+  split_left s =
+      let parts = total_parts (λ (p : Portion T). p.left) kind.refund (loss kind) (λ p. omega (arith, law.refund_within p)) (ending kind s) in
+      let cut = total_split (λ (p : Portion T). p.left) (ends_by kind.life (s.month + 1)) s.portions in
+      omega (arith, parts, cut)
+
+  counts_lead : Leads (machine kind) m₀ Counts
+  counts_lead (open_for slots month) _ h s a = absurd a.follows
+  counts_lead (enter amount terms) _ h s a =
+      let more = total-++ (λ (p : Portion T). p.left) s.portions (fresh s.month amount terms ∷ []) in
+      record { entered_is = omega arith; used_is = a.so.used_is; refunded_is = a.so.refunded_is; lost_is = a.so.lost_is; balance = omega (arith, more) }
+  counts_lead (draw d) answer h s a =
+      let less = left_taking (takings d.rule d.wanted s) s.portions (within a.follows s.month (lefts s) d.wanted (few_lefts h s a.had)) in
+      record { entered_is = a.so.entered_is; used_is = omega (arith, a.told); refunded_is = a.so.refunded_is; lost_is = a.so.lost_is; balance = omega (arith, less) }
+  counts_lead turn answer h s a =
+      let cut = split_left s in
+      let refunded = ap (λ (x : ℕ × ℕ). x.0) a.told in
+      let lost = ap (λ (x : ℕ × ℕ). x.1) a.told in
+      record { entered_is = a.so.entered_is; used_is = a.so.used_is; refunded_is = omega (arith, refunded); lost_is = omega (arith, lost); balance = omega (arith, cut) }
+
+  pub counts : (h : History T) (s : Ledger T) → Had kind m₀ h s → Counts h s
+  counts = holds (machine kind) m₀ Counts (λ opens. record { entered_is = refl; used_is = refl; refunded_is = refl; lost_is = refl; balance = refl }) counts_lead (λ call fault h s so. assumption)
+
   pub conserves : (h : History T) (s : Ledger T) → Had kind m₀ h s → Balanced h s
   conserves h s had =
-      let c = counts kind law m₀ h s had in
+      let c = counts h s had in
       record { entered_told = c.entered_is; used_told = c.used_is; refunded_told = c.refunded_is; lost_told = c.lost_is; balance = omega (arith, c) }

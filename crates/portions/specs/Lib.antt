@@ -4,5 +4,6 @@ pub mod Slots
 pub mod Made
 pub mod Listed
 pub mod Taking
+pub mod TakingByPlace
 pub mod Takes
 pub mod Totals

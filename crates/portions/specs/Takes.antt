@@ -7,20 +7,26 @@ use Rattle.portions.specs.Sums.{sum}
 use Rattle.std.proofs.lemmas.List.{length-take}
 use Rattle.portions.specs.Totals.{total_cons}
 use Rattle.std.proofs.lemmas.Bool.{cases_lt}
+use Rattle.portions.specs.declared.TheConstants.{MOST_OPEN}
 use Rattle.portions.specs.declared.amounts.Amounts.{Amounts}
 use Rattle.portions.specs.Listed.{listed}
 use Rattle.portions.specs.Taking.{oldest, shares, proportional}
+use Rattle.portions.specs.TakingByPlace.{sum_of_first}
 
 -- oldest first gives one taking for each amount
 pub oldest_length : (ls : List ℕ) (w : ℕ) → length (oldest ls w) ≡ length ls
 oldest_length [] w = refl
 oldest_length (a ∷ ls) w = ap suc (oldest_length ls (w - a))
 
+-- the smaller of it and what the older ones have not served
+pub oldest_each : (ls : List ℕ) (w j : ℕ) → slice_index (oldest ls w) j ≡ min (slice_index ls j) (w - sum_of_first j ls)
+oldest_each [] w j = omega arith
+oldest_each (a ∷ ls) w zero = omega arith
+oldest_each (a ∷ ls) w (suc j) = omega (arith, oldest_each ls (w - a) j)
+
 -- none above its amount
 pub oldest_bounded : (ls : List ℕ) (w i : ℕ) → slice_index (oldest ls w) i ≤ slice_index ls i
-oldest_bounded [] w i = omega arith
-oldest_bounded (a ∷ ls) w zero = omega arith
-oldest_bounded (a ∷ ls) w (suc i) = oldest_bounded ls (w - a) i
+oldest_bounded ls w i = omega (arith, oldest_each ls w i)
 
 -- and together the smaller of wanted and the total
 pub oldest_sum : (ls : List ℕ) (w : ℕ) → sum (oldest ls w) ≡ min w (sum ls)
@@ -34,8 +40,8 @@ pub record Serving (ls all : List ℕ) (w i rest : ℕ) : Type 0 where
   pub so_far : all ++ oldest (drop i ls) rest ≡ oldest ls w
   pub long : length all ≡ i
 
--- there are at most 16 amounts
-pub listed_few : (a : Amounts) → length (listed a) ≤ 16
+-- there are no more amounts than portions can be open
+pub listed_few : (a : Amounts) → length (listed a) ≤ MOST_OPEN
 listed_few a = omega (arith, length-take a.len a.rows, a.few)
 
 -- of a larger number the quotient is not smaller
@@ -72,7 +78,11 @@ shares_sum w t b (a ∷ ls) p =
     let e : b + a + sum ls ≡ b + sum (a ∷ ls) = omega (arith, c) in
     omega (arith, r, share_mono w t b a p, ap (λ n. w * n / t) e, total_cons (λ x. x) (w * (b + a) / t - w * b / t) (shares w t (b + a) ls))
 
--- proportional takings are none above their amount
+-- proportional takings are one for each amount
+pub proportional_length : (ls : List ℕ) (w : ℕ) → length (proportional ls w) ≡ length ls
+proportional_length ls w = shares_length (min w (sum ls)) (max 1 (sum ls)) 0 ls
+
+-- none above its amount
 pub proportional_bounded : (ls : List ℕ) (w i : ℕ) → slice_index (proportional ls w) i ≤ slice_index ls i
 proportional_bounded ls w i = shares_bounded (min w (sum ls)) (max 1 (sum ls)) 0 ls i (omega arith) (omega arith)
 

@@ -22,6 +22,9 @@ pub mod terms;
 // The largest amount of a portion.
 pub const LARGEST_AMOUNT: u32 = 100_000_000;
 
+// As many portions as a store has open at most, since a life is at most 15 months.
+pub const MOST_OPEN: usize = 16;
+
 // The first month that a store or an account is opened for.
 pub const FIRST_MONTH: u16 = 47;
 

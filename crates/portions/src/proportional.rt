@@ -1,9 +1,8 @@
 ghost use Rattle.std.specs.Prelude.{◌≡◌, ◌*◌, ◌/◌, ◌<◌, ◌≤◌};
 ghost use Rattle.portions.specs.Listed.{listed};
 ghost use Rattle.portions.specs.Taking.{proportional};
-ghost use Prim.Native.Nat;
-ghost use Rattle.portions.specs.Sums.{sum};
-ghost use Rattle.portions.specs.Takes.{shares_length, proportional_bounded, proportional_sum};
+ghost use Rattle.portions.specs.TakingByPlace.{ProportionalByPlace};
+ghost use Rattle.portions.specs.Takes.{proportional_length, proportional_bounded, proportional_sum};
 
 use crate::amounts::Amounts;
 use crate::rules::Rule;
@@ -42,13 +41,18 @@ fn take_shares(left: &Amounts, wanted: u32) -> Amounts
 impl Rule for Proportional {
     ghost gives = { λ _ _ ls w. proportional ls w };
 
-    ghost sized = { λ s m w ls. shares_length (Nat.min w (sum ls)) (Nat.max 1 (sum ls)) 0 ls };
+    ghost sized = { λ s m w ls few. proportional_length ls w };
 
-    ghost bounded = { λ s m w ls i. proportional_bounded ls w i };
+    ghost bounded = { λ s m w ls few i. proportional_bounded ls w i };
 
-    ghost full = { λ s m w ls. proportional_sum ls w };
+    ghost full = { λ s m w ls few. proportional_sum ls w };
 
     fn give(&self, _month: u16, left: &Amounts, wanted: u32) -> Amounts {
         take_shares(left, wanted)
     }
 }
+
+// From the amount at each place the share of those up to it, less that of those before it.
+pub fn takes_by_place()
+    ensures { ProportionalByPlace }
+{}

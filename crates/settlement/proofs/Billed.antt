@@ -10,7 +10,7 @@ use Rattle.ledger.specs.Steps as store_steps
 use Rattle.ledger.specs.Service.{taken_from}
 use Rattle.ledger.specs.Steps.{taking, entering, drawing, turning, refunds, losses}
 use Rattle.ledger.specs.History as store
-use Rattle.ledger.proofs.Store.{few_open}
+use Rattle.ledger.proofs.Store.{few_open, few_lefts}
 use Rattle.ledger.proofs.Store as stores
 use Rattle.ledger.proofs.Lists.{within}
 use Rattle.settlement.specs.declared.answers.Payment.{Payment}
@@ -125,24 +125,25 @@ told o h b had = let s = sound o h b had in standing_is _ _ _ _ _ _ true s.is_op
 
 drawn : (o : BillOpening) (h : Calls) (b : BillAccount) → Had billing o h b → (rule : Rule) → LawfulRule rule → (lines : ℕ) → refusal billing (settle rule lines) b ≡ None → Drawn billing o h b rule
 drawn o h b had rule law lines none =
-    let all = draw_sum rule law b.bill b.store in
     let held = (sound o h b had).had in
     let takes = paid rule b in
     let calls = store_calls billing o tt h in
+    let few = few_lefts deposit lawful o.month calls b.store held in
+    let all = draw_sum rule law b.bill b.store few in
     let there = brought_there (store_steps.machine deposit) o.month calls b.store held in
     let less' : Less (λ k. 0 + taken_from k takes b.store.portions) b.store.portions (taking takes b.store.portions) =
-    less_taking (λ k. 0) 0 takes b.store.portions b.store.portions (stores.sound deposit o.month calls b.store held).rising (within law b.store.month (lefts b.store) b.bill) (less_none b.store.portions) in
+    less_taking (λ k. 0) 0 takes b.store.portions b.store.portions (stores.sound deposit o.month calls b.store held).rising (within law b.store.month (lefts b.store) b.bill few) (less_none b.store.portions) in
     let less : Less (took billing o rule tt calls (billing.draws rule b)) b.store.portions (taking takes b.store.portions) = subst (λ (s : Ledger ℕ). Less (λ k. 0 + takes_from billing rule b.bill s k) b.store.portions (taking takes b.store.portions)) (sym there) less' in
     record {
       lawful = ((record { rest_is = omega arith; enough = omega arith; least = λ w le. omega arith; used_is = omega (arith, all); covers_is = omega (arith, all) }, λ other used. absurd (other refl)), tt);
       covered_is = λ z. omega arith;
       due_is = λ z. omega (arith, all);
-      due_only_when_empty = λ z short from. omega (arith, short, all, draw_left rule law b.bill b.store);
+      due_only_when_empty = λ z short from. omega (arith, short, all, draw_left rule law b.bill b.store few);
       risen = λ z. omega arith;
       lines = record {
         told = lines_less None _ b.store.portions (taking takes b.store.portions) less ∙ sym (append-nil _);
         counted = refl;
-        add_up = λ z. omega (arith, lines_sum None (took billing o rule tt calls (billing.draws rule b)) b.store.portions (taking takes b.store.portions) less, draw_left rule law b.bill b.store);
+        add_up = λ z. omega (arith, lines_sum None (took billing o rule tt calls (billing.draws rule b)) b.store.portions (taking takes b.store.portions) less, draw_left rule law b.bill b.store few);
       };
     }
 

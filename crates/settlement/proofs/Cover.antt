@@ -8,6 +8,7 @@ use Rattle.ledger.specs.Rules.{Rule, LawfulRule}
 use Rattle.ledger.specs.Ledger.{Ledger, left_in, lefts}
 use Rattle.ledger.specs.Steps.{taking, takings, drawing}
 use Rattle.ledger.proofs.Lists.{sum_lefts, left_taking, within}
+use Rattle.ledger.proofs.Store.{Few}
 use Rattle.hours.specs.declared.zones.Zone.{Zone}
 use Rattle.hours.specs.Zones.{zone_number}
 use Rattle.settlement.specs.Zones.{of}
@@ -50,12 +51,12 @@ short_empties c p all pos short =
       | inr le ↦ le
     ]
 
-module _ {T : Type 0} (rule : Rule) (law : LawfulRule rule) (w : ℕ) (s : Ledger T) where
+module _ {T : Type 0} (rule : Rule) (law : LawfulRule rule) (w : ℕ) (s : Ledger T) (few : Few s) where
   pub draw_sum : sum (takings rule w s) ≡ min w (left_in s.portions)
-  draw_sum = law.full s.month w (lefts s) ∙ ap (min w) (sum_lefts s.portions)
+  draw_sum = law.full s.month w (lefts s) few ∙ ap (min w) (sum_lefts s.portions)
 
   pub draw_left : left_in (drawing (takings rule w s) s).portions + sum (takings rule w s) ≡ left_in s.portions
-  draw_left = left_taking (takings rule w s) s.portions (within law s.month (lefts s) w)
+  draw_left = left_taking (takings rule w s) s.portions (within law s.month (lefts s) w few)
 
 -- energy is due in the zone only if the store is empty
 abbrev pub Served : Zone → Zone → Course → Type 0
@@ -65,29 +66,29 @@ module _ (rule : Rule) (law : LawfulRule rule) (c : ℕ) (pos : 0 < c) where
   pub cover_rests : (zone from : Zone) (course : Course) (other : Zone) → of other (cover rule c zone from course).rests ≤ of other course.rests
   cover_rests zone from course other = put_relates ◌≤◌ (λ x. omega arith) zone _ course.rests (omega arith) other
 
-  pub cover_lefts : (zone from : Zone) (course : Course) (other : Zone) → left_in (of other (cover rule c zone from course).stores).portions ≤ left_in (of other course.stores).portions
-  cover_lefts zone from course other =
+  pub cover_lefts : (zone from : Zone) (course : Course) → Few (of from course.stores) → (other : Zone) → left_in (of other (cover rule c zone from course).stores).portions ≤ left_in (of other course.stores).portions
+  cover_lefts zone from course few other =
       let store = of from course.stores in
-      let less = draw_left rule law (wanted c (of zone course.rests)) store in
+      let less = draw_left rule law (wanted c (of zone course.rests)) store few in
       put_relates (λ x y. left_in x.portions ≤ left_in y.portions) (λ x. omega arith) from _ course.stores (omega (arith, less)) other
 
   -- serving a zone from a store makes it served from it
-  pub cover_serves : (zone from : Zone) (course : Course) → Served zone from (cover rule c zone from course)
-  cover_serves zone from course short =
+  pub cover_serves : (zone from : Zone) (course : Course) → Few (of from course.stores) → Served zone from (cover rule c zone from course)
+  cover_serves zone from course few short =
       let p = of zone course.rests in
       let store = of from course.stores in
       let takes = takings rule (wanted c p) store in
       let rest = of_put zone (p - covered c p (sum takes)) course.rests in
       let after = ap (λ (s : Ledger (Unit {0})). left_in s.portions) (of_put from (drawing takes store) course.stores) in
-      let sum_is_lem = draw_sum rule law (wanted c p) store in
-      let less = draw_left rule law (wanted c p) store in
+      let sum_is_lem = draw_sum rule law (wanted c p) store few in
+      let less = draw_left rule law (wanted c p) store few in
       let short' : 0 < p - covered c p (min (wanted c p) (left_in store.portions)) = subst (λ u. 0 < p - covered c p u) sum_is_lem (subst (λ r. 0 < r) rest short) in
       omega (arith, after, sum_is_lem, less, short_empties c p (left_in store.portions) pos short')
 
   -- and stays so while others are served
-  pub cover_keeps : (zone from : Zone) (course : Course) (z s : Zone) → Served z s course → Served z s (cover rule c zone from course)
-  cover_keeps zone from course z s served short =
-      omega (arith, cover_lefts zone from course s, served (omega (arith, cover_rests zone from course z, short)))
+  pub cover_keeps : (zone from : Zone) (course : Course) → Few (of from course.stores) → (z s : Zone) → Served z s course → Served z s (cover rule c zone from course)
+  cover_keeps zone from course few z s served short =
+      omega (arith, cover_lefts zone from course few s, served (omega (arith, cover_rests zone from course z, short)))
 
 -- the pair is in the list
 abbrev pub In : Zone → Zone → List (Zone × Zone) → Type 0

@@ -14,7 +14,7 @@ use Rattle.ledger.specs.Service.{taken_from}
 use Rattle.ledger.specs.Told.{RisingFrom}
 use Rattle.ledger.specs.Steps.{entering, takings, drawing, turning, refunds, losses}
 use Rattle.ledger.specs.History as store
-use Rattle.ledger.proofs.Store.{few_open}
+use Rattle.ledger.proofs.Store.{Few, few_open, few_lefts}
 use Rattle.ledger.proofs.Store as stores
 use Rattle.ledger.proofs.Lists.{within}
 use Rattle.settlement.specs.declared.answers.Settlement.{Settlement}
@@ -75,6 +75,9 @@ module _ (o : MeterOpening) (m : ℕ) (calls : Zone → store.History (Unit {0})
   abbrev On : List (Zone × Zone) → Course → List (Draw Zone) → Type 0
   On done course ds = Steady o m calls rule a done course ds
 
+  few_at : (done : List (Zone × Zone)) (course : Course) (ds : List (Draw Zone)) → On done course ds → (z : Zone) → Few (of z course.stores)
+  few_at done course ds st z = few_lefts energy lawful o.month (draws_on metering z rule ds ++ calls z) (of z course.stores) (st.had z)
+
   earned : (done : List (Zone × Zone)) (course : Course) (ds : List (Draw Zone)) → On done course ds → (zone from : Zone) → Earned metering o a ds (draw_at rule c zone from course)
   earned done course ds st zone from =
       let rest = of zone course.rests in
@@ -82,13 +85,13 @@ module _ (o : MeterOpening) (m : ℕ) (calls : Zone → store.History (Unit {0})
         rest_is = st.rests_are zone;
         enough = subst (λ t. 10 * rest ≤ wanted c rest * t) is (wanted_serves c rest (omega arith));
         least = λ w le. wanted_least c rest w (omega arith) (subst (λ t. 10 * rest ≤ w * t) (sym is) le);
-        used_is = omega (arith, draw_sum rule law (wanted c rest) (of from course.stores), st.lefts_are from);
+        used_is = omega (arith, draw_sum rule law (wanted c rest) (of from course.stores) (few_at done course ds st from), st.lefts_are from);
         covers_is = ap (λ t. min rest (sum (taken rule c zone from course) * t / 10)) is;
       }
 
   in_turn : (done : List (Zone × Zone)) (course : Course) (ds : List (Draw Zone)) → On done course ds → (zone from : Zone) → Ready done zone from → 0 < sum (taken rule c zone from course) → InTurn metering a ds (draw_at rule c zone from course)
   in_turn done course ds st zone from ready some =
-      let all = draw_sum rule law (wanted c (of zone course.rests)) (of from course.stores) in
+      let all = draw_sum rule law (wanted c (of zone course.rests)) (of from course.stores) (few_at done course ds st from) in
       let needs : 0 < of zone course.rests = wanted_none c (of zone course.rests) (omega arith) (omega (arith, all)) in
       let emptied : (k : Zone) → In zone k done → Emptied metering a ds k = λ k before. omega (arith, st.served zone k before needs, st.lefts_are k) in
       let met : (k : Zone) → In k from done → Covered metering a ds k = λ k before. covered_by (of k course.rests) (left_in (of from course.stores).portions) (st.served k from before) (omega (arith, all)) _ _ (st.rests_are k) in
@@ -104,13 +107,14 @@ module _ (o : MeterOpening) (m : ℕ) (calls : Zone → store.History (Unit {0})
       let stock = of from course.stores in
       let takes = takings rule (wanted c rest) stock in
       let drawn = drawing takes stock in
-      let cut_by = draw_left rule law (wanted c rest) stock in
+      let few_here = few_at done course ds st from in
+      let cut_by = draw_left rule law (wanted c rest) stock few_here in
       let now : Zone → store.History (Unit {0}) = λ z. draws_on metering z rule ds ++ calls z in
       let there = brought_there (store_steps.machine energy) o.month (now from) stock (st.had from) in
       let rising : (z : Zone) → RisingFrom 0 (of z course.stores).portions = λ z. (stores.sound energy o.month (now z) (of z course.stores) (st.had z)).rising in
       let before = (of from a.stores).portions in
       let so_far : Zone → ℕ → ℕ = λ z k. took metering o rule z (calls z) ds k in
-      let less_here : Less (λ k. so_far from k + taken_from k takes stock.portions) before drawn.portions = less_taking (so_far from) 0 takes before stock.portions (rising from) (within law stock.month (lefts stock) (wanted c rest)) (st.less from) in
+      let less_here : Less (λ k. so_far from k + taken_from k takes stock.portions) before drawn.portions = less_taking (so_far from) 0 takes before stock.portions (rising from) (within law stock.month (lefts stock) (wanted c rest) few_here) (st.less from) in
       record {
         had = put_either (λ b z s. store.Had energy o.month (cond b (store.drew (record { rule = rule; wanted = wanted c rest }) (sum takes) ∷ draws_on metering z rule ds) (draws_on metering z rule ds) ++ calls z) s) from drawn course.stores
             (had_draw energy o.month (now from) stock (st.had from) rule law (wanted c rest) (wanted_small c rest low high (st.few zone))) st.had;
@@ -130,8 +134,8 @@ module _ (o : MeterOpening) (m : ℕ) (calls : Zone → store.History (Unit {0})
       }
     where
       served : (z k : Zone) → In z k ((zone, from) ∷ done) → Served z k (cover rule c zone from course)
-      served z k (inl e) = subst (λ x. Served z x (cover rule c zone from course)) e.1 (subst (λ x. Served x from (cover rule c zone from course)) e.0 (cover_serves rule law c (omega arith) zone from course))
-      served z k (inr more) = cover_keeps rule law c (omega arith) zone from course z k (st.served z k more)
+      served z k (inl e) = subst (λ x. Served z x (cover rule c zone from course)) e.1 (subst (λ x. Served x from (cover rule c zone from course)) e.0 (cover_serves rule law c (omega arith) zone from course (few_at done course ds st from)))
+      served z k (inr more) = cover_keeps rule law c (omega arith) zone from course (few_at done course ds st from) z k (st.served z k more)
 
   steady_covers : (pairs done : List (Zone × Zone)) (course : Course) (ds : List (Draw Zone)) → AllReady done pairs → On done course ds → On (through done pairs) (covers rule c pairs course) (draws rule c pairs course ds)
   steady_covers [] done course ds ready st = st

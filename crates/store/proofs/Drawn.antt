@@ -1,6 +1,6 @@
 -- Draws from rows: each portion less its taking.
 use Rattle.std.proofs.Common.{◌≡◌, ℕ, suc, ◌+◌, ◌<◌, ◌≤◌, zero, true, false, cond, eqb, leb, List, [], ◌∷◌, map, length, get_or, take, set, None, Ok, sym, refl, ap, ◌∙◌, subst, arith}
-use Rattle.std.proofs.lemmas.List.{get_or-map, length-map, map-set}
+use Rattle.std.proofs.lemmas.List.{get_or-map, length-map, length-take, map-set}
 use Rattle.portions.specs.Sums.{sum}
 use Rattle.portions.specs.declared.Slot.{Slot}
 use Rattle.portions.specs.declared.Kind.{Ghosts}
@@ -14,6 +14,7 @@ use Rattle.ledger.specs.Ledger.{has, left_in, lefts}
 use Rattle.ledger.specs.Calls.{draw_refusal, answers, becomes}
 use Rattle.ledger.specs.Steps.{machine, taking, takings, drawing}
 use Rattle.ledger.proofs.Asked.{draw_met}
+use Rattle.ledger.proofs.Store.{Few}
 use Rattle.store.specs.declared.Store.{Store}
 use Rattle.store.specs.declared.rows.Rows.{Rows}
 use Rattle.store.specs.declared.totals.Totals.{Totals}
@@ -78,8 +79,9 @@ module _ {K T : Type 0} {k : Ghosts K T} (s : Store K T k) (rule : Rule) (law : 
     taken_all : n + left_in (kept rows') ≡ left_in (kept s.rows)
     taken_all =
         let ps = map (reads k.term) (held s.rows) in
-        let sized = ap length gave ∙ law.sized s.month w (lefts (ledger_of k s)) ∙ length-map ps (λ p. p.left) in
-        let each : (i : ℕ) → get_or ns i 0 ≤ get_or (map (λ p. p.left) ps) i 0 = λ i. subst (λ zs. get_or zs i 0 ≤ get_or (map (λ p. p.left) ps) i 0) (sym gave) (law.bounded s.month w (lefts (ledger_of k s)) i) in
+        let few : Few (ledger_of k s) = omega (arith, length-map ps (λ p. p.left), length-map (held s.rows) (reads k.term), length-take s.rows.filled s.rows.slots.now, s.rows.few) in
+        let sized = ap length gave ∙ law.sized s.month w (lefts (ledger_of k s)) few ∙ length-map ps (λ p. p.left) in
+        let each : (i : ℕ) → get_or ns i 0 ≤ get_or (map (λ p. p.left) ps) i 0 = λ i. subst (λ zs. get_or zs i 0 ≤ get_or (map (λ p. p.left) ps) i 0) (sym gave) (law.bounded s.month w (lefts (ledger_of k s)) few i) in
         omega (arith, summed, drawn_left ps ns sized each, ap left_in front, left_plain k.term (held s.rows), left_plain k.term (held rows'))
 
     same_rises : (low end : ℕ) → rises low end (kept rows') ≡ rises low end (kept s.rows)

@@ -2,6 +2,7 @@ ghost use Rattle.std.specs.Prelude.{◌≡◌, [], ◌∷◌, ◌++◌, length, 
 ghost use Rattle.portions.specs.Sums.{sum};
 ghost use Rattle.portions.specs.Listed.{listed};
 
+use crate::MOST_OPEN;
 use crate::amounts::Amounts;
 
 impl Default for Amounts {
@@ -18,7 +19,7 @@ impl Amounts {
         ensures { listed result ≡ [] }
     {
         Amounts {
-            rows: [0; 16],
+            rows: [0; MOST_OPEN],
             len: 0,
         }
     }
@@ -44,11 +45,11 @@ impl Amounts {
         self.as_slice().get(i).copied().unwrap_or(0)
     }
 
-    // One more at the end, where there are fewer than 16.
+    // One more at the end, where there is room.
     pub fn push(&mut self, amount: u32)
-        ensures { listed self.new ≡ (if nat_lt (length (listed self.old)) 16 then listed self.old ++ (amount ∷ []) else listed self.old) }
+        ensures { listed self.new ≡ (if nat_lt (length (listed self.old)) MOST_OPEN then listed self.old ++ (amount ∷ []) else listed self.old) }
     {
-        if self.len < 16 {
+        if self.len < MOST_OPEN {
             let at = self.len;
             self.rows[at] = amount;
             self.len = at + 1;
