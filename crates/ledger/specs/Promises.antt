@@ -1,5 +1,5 @@
 -- What a store promises after every history, and what a call keeps of it.
-use Rattle.std.specs.Prelude.{ℕ, ◌+◌, ◌≤◌, length, Result}
+use Rattle.std.specs.Prelude.{ℕ, ◌+◌, ◌≤◌, length, Result, OnOk}
 use Rattle.faults.specs.declared.StoreFault.{StoreFault}
 use Rattle.ledger.specs.Kinds.{Kind}
 use Rattle.ledger.specs.Ledger.{Ledger}
@@ -12,7 +12,7 @@ use Rattle.ledger.specs.Told.{TellsExactly}
 use Rattle.ledger.specs.Ways.{Way, Fair}
 use Rattle.ledger.specs.Best.{WentOldestFirst, NoBetter}
 use Rattle.ledger.specs.Service.{Own, ServesFairly}
-use Rattle.ledger.specs.Refusals.{AllRightly}
+use Rattle.ledger.specs.Refusals.{OpenedRightly, AllRightly}
 
 -- the promise of a store of this kind, opened for month m₀, that has had the calls h and now tells s
 pub record Promised {T : Type 0} (kind : Kind T) (m₀ : ℕ) (h : History T) (s : Ledger T) : Type 0 where
@@ -35,6 +35,7 @@ pub record Promised {T : Type 0} (kind : Kind T) (m₀ : ℕ) (h : History T) (s
 abbrev pub Keeps : {T : Type 0} → Kind T → Ledger T → Event T → Ledger T → Type 0
 Keeps kind before event after = histories.Keeps (machine kind) (Promised kind) before event after
 
--- an opening keeps it: an accepted one begins a history, and a refused one is a call like any other
+-- an opening keeps it: one that is rightly accepted begins a history, and a refused one is a call like any other
 abbrev pub OpenKeeps : {T : Type 0} → Kind T → Ledger T → ℕ → ℕ → Result (Unit {0}) StoreFault → Ledger T → Type 0
-OpenKeeps kind before slots month result after = histories.OpenKeeps (machine kind) (Promised kind) before month (open_for slots month) result after
+OpenKeeps kind before slots month result after =
+    OnOk result (OpenedRightly kind slots month) × histories.OpenKeeps (machine kind) (Promised kind) before month (open_for slots month) result after

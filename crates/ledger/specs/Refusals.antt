@@ -13,6 +13,10 @@ module _ {T : Type 0} where
   abbrev pub HasPortion : ℕ → History T → Type 0
   HasPortion m₀ h = (amount : ℕ) × (terms : T) × WasEntered m₀ h (reached m₀ h) amount terms
 
+  -- an opening is accepted as it should be: over a slot more than the life has months, for a month from 47 to 1,199
+  abbrev pub OpenedRightly : Kind T → ℕ → ℕ → Type 0
+  OpenedRightly kind slots month = (kind.life < slots) × (47 ≤ month) × (month ≤ 1199)
+
   -- after the calls h this event is accepted or refused as it should be, by the smallest number that applies
   abbrev pub Rightly : Kind T → ℕ → History T → Event T → Type 0
   Rightly kind m₀ h (entered amount terms) = (amount ≤ 100000000) × (HasPortion m₀ h → ⊥)

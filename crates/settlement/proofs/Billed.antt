@@ -29,6 +29,7 @@ use Rattle.settlement.proofs.Cover.{draw_sum, draw_left, length_taking}
 use Rattle.settlement.proofs.Lines.{few_lines_of, Less, less_none, less_taking, lines_less, lines_sum}
 use Rattle.settlement.proofs.Tables.{opens_in, enter_waits, settle_entered, turn_early, turn_from}
 use Rattle.settlement.proofs.Rightly.{standing_is, all_rightly}
+use Rattle.settlement.proofs.Openings.{opened_so, bill_opened, bill_refused}
 use Rattle.settlement.proofs.Sums.{deposit_small, bill_small}
 use Rattle.settlement.proofs.Trace.{had_enter, had_draw, had_turn, turned_free}
 use Rattle.settlement.proofs.Inside.{Drawn, brought_there, at_there, all_settled, turns_told}
@@ -152,8 +153,9 @@ billing_keeps o h b had =
     let s = sound o h b had in
     record {
       had = had;
+      opened_rightly = bill_opened o (opened_so billing o h b had);
       standing_told = told o h b had;
-      rightly = all_rightly billing told o h b had;
+      rightly = all_rightly billing told bill_refused o h b had;
       pending_told = λ z. s.bill_is;
       stores = λ z. store_keeps billing lawful o h b z s.had;
       settled = all_settled billing drawn o h b had;

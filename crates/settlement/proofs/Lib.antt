@@ -1,6 +1,7 @@
 mod ByZone
 pub mod Tables
 mod Rightly
+mod Openings
 pub mod Cover
 pub mod Decided
 mod Trace

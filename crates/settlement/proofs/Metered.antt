@@ -46,6 +46,7 @@ use Rattle.settlement.proofs.Inside.{Drawn, brought_there, at_there, all_settled
 use Rattle.settlement.proofs.Lines.{few_lines_of, Less, less_none, less_same, less_taking, lines_less, lines_sum}
 use Rattle.settlement.proofs.Tables.{opens_in, enter_waits, settle_entered, turn_early, turn_from, before_few, before_more}
 use Rattle.settlement.proofs.Rightly.{standing_is, all_rightly}
+use Rattle.settlement.proofs.Openings.{opened_so, meter_opened, meter_refused}
 use Rattle.settlement.proofs.Sums.{import_of, export_of, import_small, export_small}
 use Rattle.settlement.proofs.Trace.{had_enter, had_draw, had_turn, turned_free}
 use Rattle.settlement.proofs.Keeps.{store_keeps}
@@ -323,8 +324,9 @@ metering_keeps o h a had =
     let s = sound o h a had in
     record {
       had = had;
+      opened_rightly = meter_opened o (opened_so metering o h a had);
       standing_told = told o h a had;
-      rightly = all_rightly metering told o h a had;
+      rightly = all_rightly metering told meter_refused o h a had;
       pending_told = s.pending_is;
       stores = λ z. store_keeps metering lawful o h a z (s.had z);
       settled = all_settled metering drawn o h a had;

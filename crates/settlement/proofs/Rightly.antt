@@ -19,8 +19,8 @@ use Rattle.settlement.specs.Standing.{enter_refusal, settle_refusal, turn_refusa
 use Rattle.settlement.specs.Accounts.{Workings, machine}
 use Rattle.settlement.specs.Accounts.Call.{open_for, enter, settle, turn}
 use Rattle.settlement.specs.History.{Event, History, Had, month_state, entered, settled, turned}
-use Rattle.settlement.specs.Refusals.{month_now, ends_now, stands, Rightly, AllRightly}
-use Rattle.settlement.proofs.Tables.{never, asked, option_or_none, enters_in, settles_in, turns_in}
+use Rattle.settlement.specs.Refusals.{month_now, ends_now, stands, Smallest, Rightly, AllRightly}
+use Rattle.settlement.proofs.Tables.{asked, no_fault, option_or_none, enters_in, settles_in, turns_in}
 
 -- where an account stands, by its parts
 pub standing_is : (opened : Bool) (state state' : MonthState) (month month' : ℕ) (o' : Bool) (end : Bool) → opened ≡ o' → state ≡ state' → month ≡ month' →
@@ -35,10 +35,6 @@ failed false fault f o h = inl (cc, refl)
 either : (x y : Option AccountFault) (f : AccountFault) → option_or x y ≡ Some f → (x ≡ Some f) ⊎ ((x ≡ None) × (y ≡ Some f))
 either (Some fault) y f h = inl h
 either None y f h = inr (refl, h)
-
--- nothing is no refusal
-no_fault : {P : Type 0} (f : AccountFault) → ◌≡◌ {A = Option AccountFault} None (Some f) → P
-no_fault f e = never f (sym e)
 
 -- the number of a refusal that is known
 number_of : (fault f : AccountFault) → ◌≡◌ {A = Option AccountFault} (Some fault) (Some f) → account_number f ≡ account_number fault
@@ -122,7 +118,8 @@ module _ {O A S Z T : Type 0} (works : Workings O A S Z T) (o : O) (h : History 
             elim (turn_barred (month_state h) (ends_now works o h) f x.1) [ inl y ↦ inr (inl (y.0, early, y.1)) | inr y ↦ inr (inr (y.0, early, y.1, y.2)) ]
       ]
 
-module _ {O A S Z T : Type 0} (works : Workings O A S Z T) (told : (o : O) (h : History O S) (a : A) → Had works o h a → works.standing a ≡ stands works o h) where
+module _ {O A S Z T : Type 0} (works : Workings O A S Z T) (told : (o : O) (h : History O S) (a : A) → Had works o h a → works.standing a ≡ stands works o h)
+    (opens : (opening : O) (fault : AccountFault) → works.open_refusal opening ≡ Some fault → Smallest works opening (account_number fault)) where
   -- what is found at an account is found where its calls have brought it
   moved : (o : O) (h : History O S) (a : A) → Had works o h a → (f : Standing → Option AccountFault) (r : Option AccountFault) → f (works.standing a) ≡ r → f (stands works o h) ≡ r
   moved o h a had f r e = ap f (sym (told o h a had)) ∙ e
@@ -133,7 +130,7 @@ module _ {O A S Z T : Type 0} (works : Workings O A S Z T) (told : (o : O) (h : 
   rightly o h (settled rule lines answer) a had = settled_rightly works o h works.fewest_lines lines (moved o h had.0 had.1 (λ s. settle_refusal s works.fewest_lines lines) None had.2.0)
   rightly o h (turned refunded lost) a had = turned_rightly works o h (moved o h had.0 had.1 turn_refusal None had.2.0)
   rightly o h (did (open_for opening) _) a had = had.2.3
-  rightly o h (refused (open_for opening) fault) a had = had.2.0
+  rightly o h (refused (open_for opening) fault) a had = opens opening fault had.2.0
   rightly o h (refused (enter sums) fault) a had = enter_refused works o h sums.month fault (moved o h had.0 had.1 (λ s. enter_refusal s sums.month) (Some fault) had.2.0)
   rightly o h (refused (settle rule lines) fault) a had =
       settle_refused works o h works.fewest_lines lines fault (moved o h had.0 had.1 (λ s. settle_refusal s works.fewest_lines lines) (Some fault) had.2.0)

@@ -1,5 +1,5 @@
 -- What an accepted call says of the account that it met.
-use Rattle.std.proofs.Common.{◌≡◌, ℕ, ◌+◌, ◌%◌, ◌<◌, ◌≤◌, Bool, true, false, eqb, ltb, leb, ◌⊎◌, Some, None, Option, refl, inl, inr, arith}
+use Rattle.std.proofs.Common.{◌≡◌, ℕ, ◌+◌, ◌%◌, ◌<◌, ◌≤◌, Bool, true, false, eqb, ltb, leb, ◌⊎◌, Some, None, Option, sym, refl, inl, inr, arith}
 use Rattle.std.specs.Option.{option_or}
 use Rattle.std.specs.Result.{result_err}
 use Rattle.std.proofs.lemmas.Bool.{eqb-false, leb-true, ltb-true}
@@ -26,16 +26,21 @@ pub asked : (b : Bool) (fault : AccountFault) (o : Option AccountFault) → asks
 asked true fault o e = (refl, e)
 asked false fault o e = never fault e
 
+-- nothing is no refusal
+pub no_fault : {P : Type 0} (f : AccountFault) → ◌≡◌ {A = Option AccountFault} None (Some f) → P
+no_fault f e = never f (sym e)
+
 pub option_or_none : (x y : Option AccountFault) → option_or x y ≡ None → (x ≡ None) × (y ≡ None)
 option_or_none (Some fault) y e = never fault e
 option_or_none None y e = (refl, e)
 
--- an accepted opening is for a month from 47 to 1,199
-pub opens_in : (slots m : ℕ) (f g h : AccountFault) (rest : Option AccountFault) → asks (ltb 12 slots) f (asks (leb 47 m) g (asks (leb m 1199) h rest)) ≡ None → (47 ≤ m) × (m ≤ 1199)
+-- an accepted opening is for a month from 47 to 1,199, over more than 12 slots, and met whatever else it was asked
+pub opens_in : (slots m : ℕ) (f g h : AccountFault) (rest : Option AccountFault) → asks (ltb 12 slots) f (asks (leb 47 m) g (asks (leb m 1199) h rest)) ≡ None → (47 ≤ m) × (m ≤ 1199) × (12 < slots) × (rest ≡ None)
 opens_in slots m f g h rest e =
     let a = asked (ltb 12 slots) _ _ e in
     let b = asked (leb 47 m) _ _ a.1 in
-    (leb-true 47 m b.0, leb-true m 1199 (asked (leb m 1199) _ _ b.1).0)
+    let c = asked (leb m 1199) _ _ b.1 in
+    (leb-true 47 m b.0, leb-true m 1199 c.0, ltb-true 12 slots a.0, c.1)
 
 -- the states in which the table lets a call through
 pub enters_in : (state : MonthState) (end : Bool) → result_err (table state Enter end) ≡ None → state ≡ Waiting

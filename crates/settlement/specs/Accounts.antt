@@ -40,7 +40,7 @@ pub record Draw (Z : Type 0) : Type 0 where
   pub covers : ℕ
 
 -- a sort of account A: opened for O, it has for each of the zones Z a store of portions with the terms T, and its settlements answer S
-pub record Workings (O A S Z T : Type 0) : Type 0 where
+pub record Workings (O A S Z T : Type 0) : Type 1 where
   -- its zones, the place of each among them, and what marks its lines
   pub zones : List Z
   pub place : Z → ℕ
@@ -52,8 +52,10 @@ pub record Workings (O A S Z T : Type 0) : Type 0 where
   -- its stores' kind, and the fewest lines that a settlement asks for
   pub kind : Kind T
   pub fewest_lines : ℕ
-  -- which openings are refused, for which month one is, with which months a period ends, and the account right after it
+  -- which openings are refused, and when a number applies to one
   pub open_refusal : O → Option AccountFault
+  pub Applies : O → ℕ → Type 0
+  -- for which month one is, with which months a period ends, and the account right after it
   pub own_month : O → ℕ
   pub ends_in : O → ℕ → Bool
   pub opening : O → A

@@ -1,5 +1,5 @@
 -- The billing account: one deposit store, a bill for each month.
-use Rattle.std.specs.Prelude.{ℕ, ◌+◌, ◌-◌, ◌*◌, ◌/◌, Bool, true, false, List, [], ◌∷◌, length, None, Option, nat_le, nat_lt}
+use Rattle.std.specs.Prelude.{◌≡◌, ℕ, ◌+◌, ◌-◌, ◌*◌, ◌/◌, ◌<◌, Bool, true, false, List, [], ◌∷◌, length, None, Option, nat_le, nat_lt, ◌⊎◌}
 use Rattle.faults.specs.declared.AccountFault.{AccountFault}
 use Rattle.faults.specs.declared.AccountFault.TheVariants.{InStore, MonthOutOfRange, PercentageTooHigh}
 use Rattle.faults.specs.declared.StoreFault.TheVariants.{TooFewSlots}
@@ -43,6 +43,13 @@ opening o = record { opened = true; percentage = o.percentage; state = Waiting; 
 -- an opening asks for 13 slots, a month from 47 to 1,199 and a percentage of at most 100
 abbrev pub open_refusal : BillOpening → Option AccountFault
 open_refusal o = asks (nat_lt 12 o.slots) (InStore TooFewSlots) (asks (nat_le 47 o.month) MonthOutOfRange (asks (nat_le o.month 1199) MonthOutOfRange (asks (nat_le o.percentage 100) PercentageTooHigh None)))
+
+-- when a number applies to an opening: for the slots, the month and the percentage
+abbrev pub Applies : BillOpening → ℕ → Type 0
+Applies o n =
+    ((n ≡ 1) × (o.slots < 13))
+    ⊎ (((n ≡ 2) × ((o.month < 47) ⊎ (1199 < o.month)))
+    ⊎ ((n ≡ 23) × (100 < o.percentage)))
 
 -- the deposit for a value given: the value by the factor 1.23, in whole grosz
 abbrev pub deposit_for : ℕ → ℕ
@@ -104,6 +111,7 @@ billing = record {
   kind = deposit;
   fewest_lines = 13;
   open_refusal = open_refusal;
+  Applies = Applies;
   own_month = λ o. o.month;
   ends_in = λ o m. true;
   opening = opening;

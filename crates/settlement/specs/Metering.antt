@@ -1,5 +1,5 @@
 -- The metering account: an energy store for each zone, and the import that is pending in each.
-use Rattle.std.specs.Prelude.{ℕ, ◌+◌, ◌-◌, ◌*◌, ◌/◌, min, Bool, true, false, cond, List, [], ◌∷◌, ◌++◌, length, Some, None, Option, is_some, unwrap_or, nat_le, nat_lt, slice_index}
+use Rattle.std.specs.Prelude.{◌≡◌, ◌≢◌, ℕ, ◌+◌, ◌-◌, ◌*◌, ◌/◌, ◌<◌, min, Bool, true, false, cond, List, [], ◌∷◌, ◌++◌, length, Some, None, Option, is_some, unwrap_or, nat_le, nat_lt, slice_index, ◌⊎◌}
 use Rattle.faults.specs.declared.AccountFault.{AccountFault}
 use Rattle.faults.specs.declared.AccountFault.TheVariants.{InStore, MonthOutOfRange, PowerOutOfRange, PeriodUnknown}
 use Rattle.faults.specs.declared.StoreFault.TheVariants.{TooFewSlots}
@@ -65,6 +65,14 @@ open_refusal o =
     (asks (nat_le 47 o.month) MonthOutOfRange (asks (nat_le o.month 1199) MonthOutOfRange
     (asks (nat_le 1 o.power) PowerOutOfRange (asks (nat_le o.power 50000) PowerOutOfRange
     (asks (is_some (period_of o.months)) PeriodUnknown None)))))
+
+-- when a number applies to an opening: for the slots, the month, the power and the period
+abbrev pub Applies : MeterOpening → ℕ → Type 0
+Applies o n =
+    ((n ≡ 1) × (o.slots < 13))
+    ⊎ (((n ≡ 2) × ((o.month < 47) ⊎ (1199 < o.month)))
+    ⊎ (((n ≡ 21) × ((o.power ≡ 0) ⊎ (50000 < o.power)))
+    ⊎ ((n ≡ 22) × (o.months ≢ 1) × (o.months ≢ 2) × (o.months ≢ 6))))
 
 -- the energies of a month's sums, by zone
 abbrev pub split_by_zone : List ℕ → Zones ℕ
@@ -189,6 +197,7 @@ metering = record {
   kind = energy;
   fewest_lines = 39;
   open_refusal = open_refusal;
+  Applies = Applies;
   own_month = λ o. o.month;
   ends_in = λ o m. ends (or_monthly (period_of o.months)) m;
   opening = opening;

@@ -14,7 +14,7 @@ use Rattle.settlement.specs.History.{Event, History, Had, in_all, unsettled, Set
 use Rattle.settlement.specs.Inside.{store_calls}
 use Rattle.settlement.specs.Took.{AllSettled}
 use Rattle.settlement.specs.Turned.{TurnsTold}
-use Rattle.settlement.specs.Refusals.{stands, AllRightly}
+use Rattle.settlement.specs.Refusals.{stands, OpenedRightly, AllRightly}
 
 module _ {O A S Z T : Type 0} (works : Workings O A S Z T) where
   -- the store of a zone has had the calls that the account's own calls mean, and no others, and all that a store promises holds of them
@@ -30,6 +30,8 @@ module _ {O A S Z T : Type 0} (works : Workings O A S Z T) where
   -- the promise of an account that was opened so, has had the calls h and now is at a
   pub record Promised (o : O) (h : History O S) (a : A) : Type 0 where
     pub had : Had works o h a
+    -- it was opened for what it may be
+    pub opened_rightly : OpenedRightly works o
     -- the account stands where its calls have brought it, and every one was accepted or refused as it should have been
     pub standing_told : works.standing a ≡ stands works o h
     pub rightly : AllRightly works o h
