@@ -1,6 +1,6 @@
 -- A store after an accepted enter: one more row is in use.
-use Rattle.std.proofs.Common.{◌≡◌, ℕ, ◌+◌, ◌-◌, ◌*◌, ◌<◌, ◌≤◌, true, false, List, [], ◌∷◌, ◌++◌, map, length, take, set, None, sym, ap, subst, ◌∙◌, arith}
-use Rattle.std.proofs.lemmas.List.{take_more_set, map_push, length-map, length-take-le, length-set}
+use Rattle.std.proofs.Common.{◌≡◌, ℕ, ◌+◌, ◌-◌, ◌*◌, ◌<◌, ◌≤◌, true, false, List, [], ◌∷◌, ◌++◌, map, length, take, drop, set, None, sym, ap, subst, ◌∙◌, arith}
+use Rattle.std.proofs.lemmas.List.{take_more_set, map_push, length-map, length-take-le, length-set, drop-set-lt}
 use Rattle.portions.specs.declared.Slot.{Slot}
 use Rattle.portions.specs.declared.Kind.{Ghosts}
 use Rattle.portions.specs.Portions.{Portion, fresh}
@@ -62,6 +62,13 @@ module _ {K T : Type 0} {k : Ghosts K T} (s : Store K T k) (a : ℕ) (met : Ente
         let state : read_off k rows' s.opened s.month totals' ≡ entering a t (ledger_of k s) = simp (o, e, counted) in
         state ∙ ap (λ x. becomes x (entering a t (ledger_of k s)) (ledger_of k s)) (sym none)
 
+    -- the slots behind are not touched
+    pub entered_rest : drop rows'.filled rows'.slots.now ≡ drop rows'.filled (lent s)
+    entered_rest = subst (λ n. drop n rows'.slots.now ≡ drop n (lent s)) (sym more) (ap (drop (in_use s + 1)) written ∙ drop-set-lt (in_use s + 1) (lent s) (in_use s) row (omega arith))
+
+    pub entered_room : length rows'.slots.now ≡ room s
+    entered_room = ap length written ∙ length-set (lent s) (in_use s) row
+
     pub entered_clean : kept_anew k row ≡ row → Exact k (held rows')
     entered_clean exact =
         let e = ap (λ n. take n rows'.slots.now) more ∙ ap (take (in_use s + 1)) written ∙ take_more_set (lent s) (in_use s) row row_free in
@@ -72,9 +79,8 @@ module _ {K T : Type 0} {k : Ghosts K T} (s : Store K T k) (a : ℕ) (met : Ente
         let e = push plain in
         let m : (plain row).month ≡ s.month = ap (λ p. p.month) is in
         let l : (plain row).left ≡ a = ap (λ p. p.left) is in
-        let long = ap length written ∙ length-set (lent s) (in_use s) row in
         let more_left = ap left_in e ∙ total_push (λ p. p.left) (kept s.rows) (plain row) in
         rw counted (
-          (omega (arith, long, (parts s).roomy), rw e (rises_push _ s.month (kept s.rows) (plain row) m before)),
+          (omega (arith, entered_room, (parts s).roomy), rw e (rises_push _ s.month (kept s.rows) (plain row) m before)),
           (omega (arith, more_left, l, (parts s).balance), rw e (due_push s.month a s.totals.entered (kept s.rows) (plain row) m met.small free (parts s).bounded), (parts s).dated),
         )

@@ -2,6 +2,7 @@ pub mod Parts
 pub mod Rise
 mod Rising
 mod Exact
+pub mod Slots
 pub mod Lawful
 mod Read
 mod Accepted

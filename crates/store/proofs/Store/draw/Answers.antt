@@ -4,6 +4,7 @@ use Rattle.ledger.proofs.Keeps.{keeps}
 use Rattle.store.specs.Reading.{kind_of, ledger_of}
 use Rattle.store.proofs.Lawful.{lawful, lawful_rule}
 use Rattle.store.proofs.Accepted.{accepted}
+use Rattle.store.proofs.Slots.{accounted}
 use Rattle.store.proofs.Drawn.{drawn_sound, drawn_answer, drawn_after}
 use Rattle.store.proofs.Store.draw.Goals as goal
 
@@ -27,6 +28,9 @@ invariant_of-self g c =
           drawn_sound s gives (lawful_rule gives (rule.sized r) (rule.bounded r) (rule.full r)) c.args.wanted _ gave _ c.total-sum.ensures c.take_each.new.self e.front e.long _ c.add_used.ensures;
       clean = e.exact s.clean;
     }
+
+pub returns-clause-slots : goal.returns-clause-slots
+returns-clause-slots g c = accounted _ _ (search rules) c.take_each.ensures.long c.take_each.ensures.same
 
 pub returns-clause-promised : goal.returns-clause-promised
 returns-clause-promised g c =

@@ -6,7 +6,8 @@ use Rattle.ledger.proofs.Keeps.{keeps}
 use Rattle.store.specs.Reading.{kind_of, ledger_of}
 use Rattle.store.proofs.Lawful.{lawful}
 use Rattle.store.proofs.Accepted.{accepted, given}
-use Rattle.store.proofs.Entered.{in_life, row_free, entered_sound, entered_clean, entered_after}
+use Rattle.store.proofs.Slots.{accounted}
+use Rattle.store.proofs.Entered.{in_life, row_free, entered_rest, entered_room, entered_sound, entered_clean, entered_after}
 use Rattle.store.proofs.Store.enter.Goals as goal
 
 pub returns-in_err-portion-clause-promised : goal.returns-in_err-portion-clause-promised
@@ -35,6 +36,15 @@ invariant_of-self g c =
       sound = entered_sound s c.args.amount met c.args.terms _ is c.push.new.self e.slots e.filled _ c.add_entered.ensures;
       clean = entered_clean s c.args.amount met c.args.terms _ is c.push.new.self e.slots e.filled (ap (row_of g.K.Kind.kept) c.row.ensures.holds ∙ sym c.row.ensures.numbers);
     }
+
+pub returns-clause-slots : goal.returns-clause-slots
+returns-clause-slots g c =
+    let s = c.args.self.now in
+    let yes = c.in_ok-portion.ensures in
+    let met = enter_met c.args.amount (ledger_of g.K.Kind s) (accepted _ _ _ yes) in
+    let e = c.push.ensures in
+    let is = c.row.ensures.holds ∙ given _ _ _ yes in
+    accounted _ _ (entered_rest s c.args.amount met c.args.terms _ is c.push.new.self e.slots e.filled) (entered_room s c.args.amount met c.args.terms _ is c.push.new.self e.slots e.filled) e.same
 
 pub returns-clause-promised : goal.returns-clause-promised
 returns-clause-promised g c =

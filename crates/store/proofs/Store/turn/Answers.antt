@@ -8,6 +8,7 @@ use Rattle.store.specs.Exact.{Exact}
 use Rattle.store.proofs.Lawful.{lawful}
 use Rattle.store.proofs.Accepted.{accepted}
 use Rattle.store.proofs.Exact.{exact_some}
+use Rattle.store.proofs.Slots.{accounted}
 use Rattle.store.proofs.Turned.{turned_sound, turned_answer, turned_after}
 use Rattle.store.proofs.Store.turn.Goals as goal
 
@@ -37,6 +38,6 @@ returns g c =
     record {
       answer = answer;
       state = state;
-      slots = search rules;
+      slots = accounted _ _ e.rest e.long e.same;
       promised = keeps (kind_of g.K.Kind) (lawful g.K.Kind laws.lasting laws.short laws.within) l _ turn tt _ answer state;
     }
