@@ -1,10 +1,13 @@
-use Rattle.std.proofs.Common.{◌++◌, ◌∙◌}
+use Rattle.std.proofs.Common.{◌++◌, refl, ◌∙◌}
 use Rattle.settlement.specs.Metering.{own_stores, other_stores}
 use Rattle.accounts.specs.Coefficients.{tenths}
 use Rattle.accounts.specs.Metered.{course}
-use Rattle.accounts.proofs.DrawnSlots.{then_each}
+use Rattle.accounts.proofs.DrawnSlots.{drawn_nowhere, then_each}
 use Rattle.accounts.proofs.Covered.{covers_next}
 use Rattle.accounts.proofs.metering.Meters.cover_all.Goals as goal
+
+pub loop-zone-init : goal.loop-zone-init
+loop-zone-init g c = (refl, drawn_nowhere c.args.self.now.stores, c.requires.ready)
 
 pub loop-zone-preserved : goal.loop-zone-preserved
 loop-zone-preserved g c =
