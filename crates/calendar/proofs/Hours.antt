@@ -4,7 +4,7 @@ use Rattle.std.proofs.lemmas.Bool.Decides.{nat_tests, leb_tells}
 use Rattle.calendar.specs.declared.month.days.Hour.{Hour}
 use Rattle.calendar.specs.Sums.{sum_to}
 use Rattle.calendar.specs.Calendar.{weekday, is_last_sunday, days_of_month, days_before_month}
-use Rattle.calendar.specs.Even.{even_at, even_of, place_if_even}
+use Rattle.calendar.specs.Even.{place_if_even}
 use Rattle.calendar.specs.Hour.{HourAt, OneHour, hour_of_place, hour_of, day_at, clock_at, day_from, hours_at_change, day_hours, hours_before, month_hours, clock_hour}
 
 -- a month has one last Sunday
@@ -149,37 +149,12 @@ hour_is m p h a =
     let g = ap (λ (d : ℕ). leb 5 (weekday m d)) e in
     same_hour h (day_at m p) _ _ e (a.shown ∙ f) (a.free ∙ g)
 
--- the even place found from what a month keeps
-pub even_is : (m s h p e : ℕ) → T (is_last_sunday m s) → s < days_of_month m → h ≡ hours_at_change (m % 12) → p < month_hours m → e ≡ place_if_even s h p → e ≡ even_at m p
-even_is m s h p e t i c k q =
-    let q' : e ≡ place_if_even s (hours_at_change (m % 12)) p = q ∙ ap (λ x. place_if_even s x p) c in
-    let o = hour_is m p _ (hour m s p e t i k q') in
-    let d : e / 24 ≡ day_at m p = ap (λ (h : Hour). h.day) o in
-    let f : e % 24 ≡ clock_at m p = ap (λ (h : Hour). h.clock) o in
-    omega arith
-
-pub even_found : (m p e : ℕ) → p < month_hours m → e ≡ even_at m p → even_of m p ≡ Some e
-even_found m p e k q = grind (arith, nat_tests)
-
 pub hour_found : (m p : ℕ) (h : Hour) → p < month_hours m → h ≡ hour_of_place m p → hour_of m p ≡ Some h
 hour_found m p h k q = grind (arith, nat_tests)
 
 -- an hour that is found is that of a place inside the month
 pub hour_inside : (m p : ℕ) (h : Hour) → Some h ≡ hour_of m p → (p < month_hours m) × (h ≡ hour_of_place m p)
 hour_inside m p h q = (grind (arith, nat_tests), grind (arith, nat_tests))
-
--- an even place that is found is that of a place inside the month
-pub even_inside : (m p e : ℕ) → Some e ≡ even_of m p → (p < month_hours m) × (e ≡ even_at m p)
-even_inside m p e q = (grind (arith, nat_tests), grind (arith, nat_tests))
-
--- the hour of an even place stands at its place
-pub standing : (m p e : ℕ) → p < month_hours m → e ≡ even_at m p → (w : Bool) → w ≡ leb 5 (weekday m (e / 24)) → HourAt m p (record { day = e / 24; clock = e % 24; weekend = w })
-standing m p e k q w b =
-    let s = sunday_of m in
-    let h = hours_at_change (m % 12) in
-    let i = sunday_in (days_before_month m) (days_of_month m) (month_bounds m).0 in
-    let q' : e ≡ place_if_even s h p = q ∙ sym (even_is m s h p (place_if_even s h p) (sunday_last m) i refl k refl) in
-    subst (λ (w : Bool). HourAt m p (record { day = e / 24; clock = e % 24; weekend = w })) (sym b) (hour m s p e (sunday_last m) i k q')
 
 pub one_hour : (m p : ℕ) (h : Hour) → HourAt m p h → OneHour m p h
 one_hour m p h a = record { stands = a; only = λ x b. hour_is m p x b ∙ sym (hour_is m p h a) }

@@ -1,4 +1,5 @@
 pub mod Sums
 pub mod Calendar
 pub mod Hour
+pub mod DaysOff
 pub mod Even

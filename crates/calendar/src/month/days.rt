@@ -1,7 +1,8 @@
 // The months by their dates, and the hours of a month in their order.
-ghost use Rattle.std.specs.Prelude.{◌≡◌, ℕ, ◌+◌, ◌-◌, ◌*◌, ◌/◌, ◌%◌, ◌<◌, ◌≤◌, Some, None, IfSome, ◌≢◌, nat_le};
+ghost use Rattle.std.specs.Prelude.{◌≡◌, ℕ, ◌+◌, ◌-◌, ◌*◌, ◌/◌, ◌%◌, ◌<◌, ◌≤◌, Some, None, ◌≢◌, nat_le};
 ghost use Rattle.calendar.specs.Calendar.{days_of_month, calendar_month_of, weekday, year_of};
-ghost use Rattle.calendar.specs.Even.{even_of, place_if_even};
+ghost use Rattle.calendar.specs.DaysOff.{DaysOff};
+ghost use Rattle.calendar.specs.Even.{place_if_even};
 ghost use Rattle.calendar.specs.Hour.{OneHour, hours_at_change, hour_of, month_hours};
 
 use crate::month::Month;
@@ -17,6 +18,13 @@ pub struct Hour {
 
 // The days of nine weeks from a Monday on, a bit for each: it is set for Saturdays and Sundays.
 const DAYS_OFF: u64 = 0x60c1_8306_0c18_3060;
+
+// The days off of nine weeks.
+fn days_off() -> u64
+    ensures { DaysOff result 63 }
+{
+    DAYS_OFF
+}
 
 impl Month {
     // The month of a number, with all that it keeps.
@@ -84,14 +92,14 @@ impl Month {
         requires { day < 31 }
         ensures { result ≡ nat_le 5 (weekday self.now.number day) }
     {
-        DAYS_OFF >> self.first >> day & 1 == 1
+        days_off() >> self.first >> day & 1 == 1
     }
 
-    // A place as if every day had 24 hours.
-    fn even_inside(&self, place: u16) -> u16
-        requires { place ≤ 745 }
+    // A place of the month as if every day had 24 hours.
+    fn even_place(&self, place: u16) -> u16
+        requires { place < month_hours self.now.number }
         ensures value { result ≡ place_if_even self.now.sunday self.now.change place }
-        ensures bound { result ≤ 746 }
+        ensures bound { result < 744 }
     {
         if place < self.turn {
             place
@@ -100,24 +108,16 @@ impl Month {
         }
     }
 
-    // The place at which the hour at `place` would stand if every day had 24 hours; none past the month's end.
-    pub fn even_place(&self, place: u16) -> Option<u16>
-        ensures value { result ≡ even_of self.now.number place }
-        ensures bound { IfSome result (λ e. e < 744) }
-    {
-        if place >= self.hours {
-            return None;
-        }
-        Some(self.even_inside(place))
-    }
-
     // The hour at a place of the month, places counted from 0; none past its end.
     pub fn hour_at(&self, place: u16) -> Option<Hour>
         ensures value { result ≡ hour_of self.now.number place }
         ensures one { elim result [ Some h ↦ OneHour self.now.number place h | None ↦ month_hours self.now.number ≤ place ] }
         ensures clock { elim result [ Some h ↦ h.clock < 24 | None ↦ Unit {0} ] }
     {
-        let even = self.even_place(place)?;
+        if place >= self.hours {
+            return None;
+        }
+        let even = self.even_place(place);
         let day = (even / 24) as u8;
         Some(Hour {
             day,
