@@ -11,3 +11,4 @@ pub mod Keeps
 pub mod Sums
 pub mod Billed
 pub mod Metered
+pub mod Laws

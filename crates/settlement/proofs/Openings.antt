@@ -71,8 +71,8 @@ module _ (o : MeterOpening) where
       first_failed metering o f (leb 1 o.power) _ _ (λ n. (inr (inr (inl (refl, inl (omega (arith, leb-false 1 o.power n))))), meter_from_21 slots from to)) (λ y.
       first_failed metering o f (leb o.power 50000) _ _ (λ n. (inr (inr (inl (refl, inr (leb-false o.power 50000 n)))), meter_from_21 slots from to)) (λ z.
       first_failed metering o f (is_some (period_of o.months)) _ None
-          (λ n. let no = unknown o.months n in (inr (inr (inr (refl, no.0, no.1, no.2))), meter_from_22 slots from to (leb-true 1 o.power y) (leb-true o.power 50000 z)))
-          (λ w. no_fault f))))
+      (λ n. let no = unknown o.months n in (inr (inr (inr (refl, no.0, no.1, no.2))), meter_from_22 slots from to (leb-true 1 o.power y) (leb-true o.power 50000 z)))
+      (λ w. no_fault f))))
 
   -- to an accepted one none applies
   pub meter_opened : meter.open_refusal o ≡ None → OpenedRightly metering o

@@ -18,4 +18,8 @@ pub mod Turned
 pub mod Promises
 pub mod Metering
 pub mod Billing
+pub mod Rounding
+pub mod Ending
+pub mod Year
+pub mod Tenths
 pub mod Figures

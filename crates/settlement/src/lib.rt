@@ -7,6 +7,10 @@ ghost use Rattle.histories.specs.Runs.{CallsHaveHistories, HistoriesDecide, Begi
 ghost use Rattle.settlement.specs.Accounts.{machine};
 ghost use Rattle.settlement.specs.Metering.{metering};
 ghost use Rattle.settlement.specs.Billing.{billing};
+ghost use Rattle.settlement.specs.Rounding.{RoundsMoney};
+ghost use Rattle.settlement.specs.Ending.{EndsPortions};
+ghost use Rattle.settlement.specs.Year.{EndsPeriods};
+ghost use Rattle.settlement.specs.Tenths.{GivesTenths};
 
 mod answers;
 mod standing;
@@ -50,4 +54,24 @@ pub fn histories_decide()
 pub fn beginnings_are_histories()
     ensures metering { BeginningsAreHistories (machine metering) }
     ensures billing { BeginningsAreHistories (machine billing) }
+{}
+
+// Bills and deposits are rounded to the nearest grosz, and caps down.
+pub fn money_is_rounded()
+    ensures { RoundsMoney }
+{}
+
+// Portions end after 12 months, when what is left in one is refunded or lost.
+pub fn portions_end()
+    ensures { EndsPortions }
+{}
+
+// Periods end with their months of the year.
+pub fn periods_end()
+    ensures { EndsPeriods }
+{}
+
+// The tenths covered follow the power.
+pub fn tenths_follow_power()
+    ensures { GivesTenths }
 {}

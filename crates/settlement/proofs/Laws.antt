@@ -1,0 +1,68 @@
+-- How money is rounded, how portions and periods end, and how much is covered.
+use Rattle.std.proofs.Common.{◌≡◌, ℕ, zero, suc, ◌+◌, ◌*◌, ◌%◌, ◌<◌, ◌/◌, min, get_or, cond, eqb, ◌⊎◌, [], ◌∷◌, sym, refl, ap, ◌∙◌, arith}
+use Rattle.std.proofs.lemmas.Bool.{eqb-true, eq-eqb, le-leb, lt-leb}
+use Rattle.calendar.specs.Calendar.{calendar_month_of}
+use Rattle.settlement.specs.Table.{ends, period_of}
+use Rattle.settlement.specs.Metering.{metering, or_monthly}
+use Rattle.settlement.specs.Rounding.{RoundsMoney}
+use Rattle.settlement.specs.Ending.{EndsPortions}
+use Rattle.settlement.specs.Year.{EndsPeriods}
+use Rattle.settlement.specs.Tenths.{GivesTenths}
+
+pub rounds_money : RoundsMoney
+rounds_money = record {
+  bill = λ sums. record { from = omega arith; below = omega arith };
+  deposit = λ sums. record { from = omega arith; below = omega arith };
+  cap = λ o sums. record { within = omega arith; no_larger = λ k le. omega arith };
+}
+
+smaller_is : (a b : ℕ) → (min a b ≡ a) ⊎ (min a b ≡ b)
+smaller_is a b = grind arith
+
+pub ends_portions : EndsPortions
+ends_portions = record {
+  energy_life = refl;
+  deposit_life = refl;
+  energy_refund = λ p. refl;
+  deposit_refund = λ p. record { at_most_one = omega arith; at_most_other = omega arith; one_of_them = smaller_is p.terms p.left };
+  energy_rest = λ p. omega arith;
+  deposit_rest = λ p. omega arith;
+}
+
+pub gives_tenths : GivesTenths
+gives_tenths = record {
+  eight = λ o some few. ap (λ b. cond b 8 7) (le-leb o.power 10000 few);
+  seven = λ o some few. ap (λ b. cond b 8 7) (lt-leb o.power 10000 some);
+  ten = λ o. refl;
+}
+
+-- the k-th of the months with which periods end
+even_month : (k d : ℕ) → k < 6 → get_or (2 ∷ 4 ∷ 6 ∷ 8 ∷ 10 ∷ 12 ∷ []) k d ≡ 2 * k + 2
+even_month zero d less = refl
+even_month (suc zero) d less = refl
+even_month (suc (suc zero)) d less = refl
+even_month (suc (suc (suc zero))) d less = refl
+even_month (suc (suc (suc (suc zero)))) d less = refl
+even_month (suc (suc (suc (suc (suc zero))))) d less = refl
+even_month (suc (suc (suc (suc (suc (suc k)))))) d less = absurd (omega arith)
+
+half_month : (k d : ℕ) → k < 2 → get_or (6 ∷ 12 ∷ []) k d ≡ 6 * k + 6
+half_month zero d less = refl
+half_month (suc zero) d less = refl
+half_month (suc (suc k)) d less = absurd (omega arith)
+
+pub ends_periods : EndsPeriods
+ends_periods = record {
+  every_month = λ o is m. ap (λ n. ends (or_monthly (period_of n)) m) is;
+  every_second = λ o is m.
+      let at : metering.ends_in o m ≡ eqb (m % 2) 1 = ap (λ n. ends (or_monthly (period_of n)) m) is in (
+        λ ends. let odd = eqb-true (m % 2) 1 (sym at ∙ ends) in (m % 12 / 2, omega arith, omega (arith, even_month (m % 12 / 2) (calendar_month_of m) (omega arith))),
+        λ c. at ∙ eq-eqb (m % 2) 1 (omega (arith, even_month c.0 (calendar_month_of m) c.1, c.2)),
+      );
+  every_sixth = λ o is m.
+      let at : metering.ends_in o m ≡ eqb (m % 6) 5 = ap (λ n. ends (or_monthly (period_of n)) m) is in (
+        λ ends. let last = eqb-true (m % 6) 5 (sym at ∙ ends) in (m % 12 / 6, omega arith, omega (arith, half_month (m % 12 / 6) (calendar_month_of m) (omega arith))),
+        λ c. at ∙ eq-eqb (m % 6) 5 (omega (arith, half_month c.0 (calendar_month_of m) c.1, c.2)),
+      );
+  billed = λ o m. refl;
+}
