@@ -23,10 +23,14 @@ module _ {O C S F : Type 0} {Answer : C → Type 0} (machine : Machine O C Answe
   Does s (did call answer) s' = (machine.refusal call s ≡ None) × (answer ≡ machine.answer call s) × (s' ≡ machine.after call s) × machine.Follows call
   Does s (refused call fault) s' = (machine.refusal call s ≡ Some fault) × (s' ≡ s)
 
-  -- opened so, the machine has had the calls h and is at s
+  -- since it stood as said, the machine has had the calls h and is at s
+  abbrev pub HadSince : (S → Type 0) → List (Event C Answer F) → S → Type 0
+  HadSince Stood [] s = Stood s
+  HadSince Stood (e ∷ h) s' = (s : S) × HadSince Stood h s × Does s e s'
+
+  -- opened so, it has had the calls h and is at s
   abbrev pub Had : O → List (Event C Answer F) → S → Type 0
-  Had o [] s = machine.Opens o × (s ≡ machine.opening o)
-  Had o (e ∷ h) s' = (s : S) × Had o h s × Does s e s'
+  Had o h s = HadSince (λ begun. machine.Opens o × (begun ≡ machine.opening o)) h s
 
   -- a call keeps a promise: whatever calls the machine has had before, all is as promised after them and this one
   abbrev pub Keeps : (O → List (Event C Answer F) → S → Type 0) → S → Event C Answer F → S → Type 0

@@ -1,3 +1,4 @@
 pub mod Machines
 pub mod Histories
 pub mod Runs
+pub mod Unopened

@@ -5,5 +5,6 @@ mod Sums
 mod Best
 mod Own
 mod Refusals
+pub mod Unopened
 pub mod Promise
 pub mod Keeps

@@ -6,14 +6,14 @@ use Rattle.faults.specs.Numbers.{store_number}
 use Rattle.portions.specs.Portions.{Portion}
 use Rattle.ledger.specs.Kinds.{Kind}
 use Rattle.ledger.specs.Ledger.{Ledger, has}
-use Rattle.ledger.specs.Calls.{asks}
+use Rattle.ledger.specs.Calls.{asks, open_refusal}
 use Rattle.ledger.specs.Calls.Call.{open_for, enter, draw, turn}
 use Rattle.histories.specs.Histories.Event.{did, refused}
 use Rattle.histories.proofs.Runs.{always}
 use Rattle.ledger.specs.Steps.{machine}
 use Rattle.ledger.specs.History.{Event, History, Had, reached, entered, drew, turned}
 use Rattle.ledger.specs.Told.{Tells}
-use Rattle.ledger.specs.Refusals.{HasPortion, Rightly, AllRightly}
+use Rattle.ledger.specs.Refusals.{HasPortion, OpeningRefused, Rightly, AllRightly}
 use Rattle.ledger.proofs.Asked.{failed, enter_met, draw_met, turn_met}
 use Rattle.ledger.proofs.Store.{sound, exact}
 
@@ -52,17 +52,9 @@ module _ {T : Type 0} where
         let told = (exact kind m₀ h s had (reached m₀ h) p.0 p.1).all p.2 (omega arith) in
         ap (λ (n : ℕ). has n s.portions) month_is ∙ tells_has (reached m₀ h) p.0 p.1 s.portions told
 
-  refuses_rightly : (kind : Kind T) (m₀ : ℕ) (h : History T) (e : Event T) (s : Ledger T) → Had kind m₀ (e ∷ h) s → Rightly kind m₀ h e
-  refuses_rightly kind m₀ h (entered amount terms) s had =
-      let was = had.0 in
-      let met = enter_met amount was had.2.0 in
-      (met.small, λ p. both_ways (has was.month was.portions) met.free (portion_told kind m₀ h was had.1 p))
-  refuses_rightly kind m₀ h (drew d answer) s had = (draw_met d.wanted had.0 had.2.0).small
-  refuses_rightly kind m₀ h (turned refunded lost) s had =
-      omega (arith, (turn_met had.0 had.2.0).early, month_is kind m₀ h had.0 had.1)
-  refuses_rightly kind m₀ h (did (open_for slots month) _) s had = had.2.3
-  refuses_rightly kind m₀ h (refused (open_for slots month) fault) s had =
-      elim (failed (ltb kind.life slots) _ fault _ had.2.0) [
+  pub opening_refused : (kind : Kind T) (slots month : ℕ) (fault : StoreFault) → open_refusal kind slots month ≡ Some fault → OpeningRefused kind slots month fault
+  opening_refused kind slots month fault e =
+      elim (failed (ltb kind.life slots) _ fault _ e) [
         | inl x ↦ inl (ap store_number x.0, ltb-false kind.life slots x.1)
         | inr x ↦ elim (failed (leb 47 month) _ fault _ x.1) [
           | inl y ↦ inr (ap store_number y.0, ltb-true kind.life slots x.0, inl (leb-false 47 month y.1))
@@ -72,6 +64,17 @@ module _ {T : Type 0} where
           ]
         ]
       ]
+
+  refuses_rightly : (kind : Kind T) (m₀ : ℕ) (h : History T) (e : Event T) (s : Ledger T) → Had kind m₀ (e ∷ h) s → Rightly kind m₀ h e
+  refuses_rightly kind m₀ h (entered amount terms) s had =
+      let was = had.0 in
+      let met = enter_met amount was had.2.0 in
+      (met.small, λ p. both_ways (has was.month was.portions) met.free (portion_told kind m₀ h was had.1 p))
+  refuses_rightly kind m₀ h (drew d answer) s had = (draw_met d.wanted had.0 had.2.0).small
+  refuses_rightly kind m₀ h (turned refunded lost) s had =
+      omega (arith, (turn_met had.0 had.2.0).early, month_is kind m₀ h had.0 had.1)
+  refuses_rightly kind m₀ h (did (open_for slots month) _) s had = had.2.3
+  refuses_rightly kind m₀ h (refused (open_for slots month) fault) s had = opening_refused kind slots month fault had.2.0
   refuses_rightly kind m₀ h (refused (enter amount terms) fault) s had =
       let was = had.0 in
       elim (failed (leb amount 100000000) _ fault _ (still was.opened _ fault _ (sound kind m₀ h was had.1).is_open had.2.0)) [

@@ -10,4 +10,5 @@ pub mod Ways
 pub mod Best
 pub mod Service
 pub mod Refusals
+pub mod Unopened
 pub mod Promises
