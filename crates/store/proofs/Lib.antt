@@ -3,6 +3,7 @@ pub mod Rise
 mod Rising
 mod Exact
 pub mod Slots
+mod Unopened
 pub mod Lawful
 mod Read
 mod Accepted

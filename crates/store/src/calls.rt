@@ -1,4 +1,4 @@
-ghost use Rattle.std.specs.Prelude.{◌≡◌, is_ok};
+ghost use Rattle.std.specs.Prelude.{◌≡◌, [], is_ok};
 ghost use Rattle.ledger.specs.Ledger.{closed};
 ghost use Rattle.histories.specs.Machines.{gives, leaves};
 ghost use Rattle.histories.specs.Histories.{event};
@@ -8,6 +8,7 @@ ghost use Rattle.ledger.specs.Promises.{Keeps, OpenKeeps};
 ghost use Rattle.store.specs.Held.{lent, room};
 ghost use Rattle.store.specs.Reading.{kind_of, ledger_of};
 ghost use Rattle.store.specs.Slots.{Accounted};
+ghost use Rattle.store.specs.Unopened.{AsLent, StaysAsLent, OpenStaysAsLent};
 
 use crate::refusals::may_open;
 use crate::rows::Rows;
@@ -23,6 +24,7 @@ impl<'a, K: Kind> Store<'a, K> {
         ensures state { ledger_of K.Kind result ≡ closed }
         ensures slots { lent result ≡ slots.old }
         ensures lender { result.rows.slots.ghost_name ≡ slots.entry.ghost_name }
+        ensures unopened { AsLent slots.old [] result }
     {
         Store {
             rows: Rows { slots, filled: 0 },
@@ -40,6 +42,7 @@ impl<'a, K: Kind> Store<'a, K> {
         ensures slots { lent self.new ≡ lent self.old }
         ensures lender { self.new.rows.slots.ghost_name ≡ self.old.rows.slots.ghost_name }
         ensures promised { OpenKeeps (kind_of K.Kind) (ledger_of K.Kind self.old) (room self.old) month result (ledger_of K.Kind self.new) }
+        ensures unopened { OpenStaysAsLent self.old month result self.new }
     {
         may_open::<K>(self.rows.slots.len(), month)?;
         self.rows.filled = 0;
@@ -55,6 +58,7 @@ impl<'a, K: Kind> Store<'a, K> {
         ensures state { ledger_of K.Kind self.new ≡ leaves (machine (kind_of K.Kind)) (enter amount terms) (ledger_of K.Kind self.old) }
         ensures slots { Accounted (is_ok result) self.old self.new }
         ensures promised { Keeps (kind_of K.Kind) (ledger_of K.Kind self.old) (event (enter amount terms) result) (ledger_of K.Kind self.new) }
+        ensures unopened { StaysAsLent self.old (event (enter amount terms) result) self.new }
     {
         let portion = self.admit(amount, terms)?;
         self.rows.push(portion.row());
@@ -68,6 +72,7 @@ impl<'a, K: Kind> Store<'a, K> {
         ensures state { ledger_of K.Kind self.new ≡ leaves (machine (kind_of K.Kind)) (draw (record { rule = R.Rule.gives rule.now; wanted = wanted })) (ledger_of K.Kind self.old) }
         ensures slots { Accounted (is_ok result) self.old self.new }
         ensures promised { Keeps (kind_of K.Kind) (ledger_of K.Kind self.old) (event (draw (record { rule = R.Rule.gives rule.now; wanted = wanted })) result) (ledger_of K.Kind self.new) }
+        ensures unopened { StaysAsLent self.old (event (draw (record { rule = R.Rule.gives rule.now; wanted = wanted })) result) self.new }
     {
         self.may_draw(wanted)?;
         let left = self.lefts();
@@ -84,6 +89,7 @@ impl<'a, K: Kind> Store<'a, K> {
         ensures state { ledger_of K.Kind self.new ≡ leaves (machine (kind_of K.Kind)) turn (ledger_of K.Kind self.old) }
         ensures slots { Accounted (is_ok result) self.old self.new }
         ensures promised { Keeps (kind_of K.Kind) (ledger_of K.Kind self.old) (event turn result) (ledger_of K.Kind self.new) }
+        ensures unopened { StaysAsLent self.old (event turn result) self.new }
     {
         self.may_turn()?;
         let month = self.month + 1;

@@ -9,6 +9,7 @@ use Rattle.store.proofs.Lawful.{lawful}
 use Rattle.store.proofs.Accepted.{accepted}
 use Rattle.store.proofs.Exact.{exact_some}
 use Rattle.store.proofs.Slots.{accounted}
+use Rattle.store.proofs.Unopened.{stays}
 use Rattle.store.proofs.Turned.{turned_sound, turned_answer, turned_after}
 use Rattle.store.proofs.Store.turn.Goals as goal
 
@@ -16,6 +17,9 @@ pub returns-in_err-may_turn-clause-promised : goal.returns-in_err-may_turn-claus
 returns-in_err-may_turn-clause-promised g c =
     let laws = g.met.K.Kind in
     keeps (kind_of g.K.Kind) (lawful g.K.Kind laws.lasting laws.short laws.within) _ _ turn tt _ (search rules) (search rules)
+
+pub returns-in_err-may_turn-clause-unopened : goal.returns-in_err-may_turn-clause-unopened
+returns-in_err-may_turn-clause-unopened g c = stays _ _ turn tt _ (search rules) (search rules) (search rules)
 
 pub invariant_of-self : goal.invariant_of-self
 invariant_of-self g c =
@@ -35,9 +39,11 @@ returns g c =
     let none = accepted _ _ _ c.in_ok-may_turn.ensures in
     let answer = turned_answer s c.end_by-ended.new.self _ _ e.kept e.all e.refunded e.lost none in
     let state = turned_after s c.end_by-ended.new.self _ _ e.kept e.all e.refunded e.lost none _ c.add_ended.ensures in
+    let slots = accounted _ _ e.rest e.long e.same in
     record {
       answer = answer;
       state = state;
-      slots = accounted _ _ e.rest e.long e.same;
+      slots = slots;
       promised = keeps (kind_of g.K.Kind) (lawful g.K.Kind laws.lasting laws.short laws.within) l _ turn tt _ answer state;
+      unopened = stays _ _ turn tt _ answer state slots;
     }
