@@ -1,7 +1,7 @@
 -- Every list of calls has a history, it decides where the machine stands, and what holds at each step holds after every history.
 use Rattle.std.proofs.Common.{◌≡◌, List, [], ◌∷◌, map, Some, None, Option, sym, refl, ap, ◌∙◌, subst}
 use Rattle.histories.specs.Machines.{Machine}
-use Rattle.histories.specs.Histories.{Event, call_of, Does, Had, Always}
+use Rattle.histories.specs.Histories.{Event, call_of, Does, Had, brought, Always}
 use Rattle.histories.specs.Histories.Event.{did, refused}
 use Rattle.histories.specs.Runs.{CallsHaveHistories, HistoriesDecide, BeginningsAreHistories}
 
@@ -21,10 +21,14 @@ module _ {O C S F : Type 0} {Answer : C → Type 0} (machine : Machine O C Answe
       let n = next before.1 call f.0 _ refl in
       (n.0 ∷ before.0, n.1, ap (λ c. c ∷ map call_of before.0) n.2 ∙ ap (λ cs. call ∷ cs) before.2, (before.1, before.3, n.3))
 
+  -- a machine that has had calls is where they bring it
+  pub brought_there : (o : O) (h : List (Event C Answer F)) (s : S) → Had machine o h s → brought machine o h ≡ s
+  brought_there o [] s had = sym had.1
+  brought_there o (did call answer ∷ h) s had = ap (machine.after call) (brought_there o h had.0 had.1) ∙ sym had.2.2
+  brought_there o (refused call fault ∷ h) s had = brought_there o h had.0 had.1 ∙ sym had.2.1
+
   pub history_decides : HistoriesDecide machine
-  history_decides o [] s s' a b = a.1 ∙ sym b.1
-  history_decides o (did call answer ∷ h) s s' a b = a.2.2 ∙ ap (machine.after call) (history_decides o h a.0 b.0 a.1 b.1) ∙ sym b.2.2
-  history_decides o (refused call fault ∷ h) s s' a b = a.2.1 ∙ history_decides o h a.0 b.0 a.1 b.1 ∙ sym b.2.1
+  history_decides o h s s' a b = sym (brought_there o h s a) ∙ brought_there o h s' b
 
   pub beginnings : BeginningsAreHistories machine
   beginnings o [] h s had = (s, had)

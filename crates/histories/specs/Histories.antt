@@ -32,6 +32,12 @@ module _ {O C S F : Type 0} {Answer : C → Type 0} (machine : Machine O C Answe
   abbrev pub Had : O → List (Event C Answer F) → S → Type 0
   Had o h s = HadSince (λ begun. machine.Opens o × (begun ≡ machine.opening o)) h s
 
+  -- where the calls h bring a machine that was opened so
+  abbrev pub brought : O → List (Event C Answer F) → S
+  brought o [] = machine.opening o
+  brought o (did call answer ∷ h) = machine.after call (brought o h)
+  brought o (refused call fault ∷ h) = brought o h
+
   -- a call keeps a promise: whatever calls the machine has had before, all is as promised after them and this one
   abbrev pub Keeps : (O → List (Event C Answer F) → S → Type 0) → S → Event C Answer F → S → Type 0
   Keeps Promised before e after = (o : O) (h : List (Event C Answer F)) → Had o h before → Promised o (e ∷ h) after

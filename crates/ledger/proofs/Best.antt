@@ -11,8 +11,8 @@ use Rattle.ledger.specs.Kinds.{Kind, LawfulKind}
 use Rattle.ledger.specs.Rules.{Draw}
 use Rattle.ledger.specs.Ledger.{Ledger, left_in, lefts}
 use Rattle.ledger.specs.Calls.Call.{open_for, enter, draw, turn}
-use Rattle.ledger.specs.Steps.{machine, taking, stays_in}
-use Rattle.histories.proofs.Runs.{Leads, holds}
+use Rattle.ledger.specs.Steps.{machine, taking, takings, stays_in}
+use Rattle.histories.proofs.Runs.{brought_there, Leads, holds}
 use Rattle.ledger.specs.History.{History, Had, reached, entered, drew, turned}
 use Rattle.ledger.specs.Totals.{Entered, Used, received}
 use Rattle.ledger.specs.Told.{RisingFrom}
@@ -131,11 +131,11 @@ module _ {T : Type 0} (kind : Kind T) (m₀ : ℕ) (way : Way) where
       let way_more = way_left_entered m amount terms h (omega (arith, ok.month_is, ok.month_le)) in
       let more = total-++ (λ (p : Portion T). cond (leb m p.month) p.left 0) s.portions (fresh s.month amount terms ∷ []) in
       let same = ap (λ (n : ℕ). cond (leb m n) amount 0) ok.month_is in
-      omega (arith, a.so went fair m, way_more, more, same)
+      omega (arith, a.so went.1 fair.1 m, way_more, more, same)
   behind (draw d) answer h s a went fair m =
       let ih = a.so went.1 fair.1 in
       let ok = sound kind m₀ h s a.had in
-      let gave = went.0 s a.had in
+      let gave = subst (λ x. takings d.rule d.wanted x ≡ oldest (lefts x) d.wanted) (brought_there (machine kind) m₀ h s a.had) went.0 in
       let took = a.told ∙ ap sum gave ∙ oldest_sum (lefts s) d.wanted in
       let goal : List ℕ → Type 0 = λ xs. way_used way (drew d answer ∷ h) + way_left_drew d answer h m ≤ Used h + answer + left_from m (taking xs s.portions) in
       subst goal (sym gave)
@@ -158,10 +158,10 @@ module _ {T : Type 0} (kind : Kind T) (m₀ : ℕ) (way : Way) where
       let n : ℕ = max m (reached m₀ h + 1 - kind.life) in
       let kept = kept_from kind.life m (s.month + 1) s.portions in
       let same = ap (λ (j : ℕ). left_from (max m (j + 1 - kind.life)) s.portions) ok.month_is in
-      omega (arith, a.so went fair n, kept, same, way_left_turned m answer.0 answer.1 h)
+      omega (arith, a.so went.1 fair.1 n, kept, same, way_left_turned m answer.0 answer.1 h)
 
   younger : (h : History T) (s : Ledger T) → Had kind m₀ h s → Behind h s
-  younger = holds (machine kind) m₀ Behind (λ opens went fair m. omega (arith, way_left_none m)) behind (λ call fault h s so. so)
+  younger = holds (machine kind) m₀ Behind (λ opens went fair m. omega (arith, way_left_none m)) behind (λ call fault h s so went fair. so went.1 fair.1)
 
   way_balance : (h : History T) (s : Ledger T) → Had kind m₀ h s → Entered h ≤ way_used way h + way_run_out kind m₀ way h + way_left_from kind m₀ way h 0
   way_balance h s had =

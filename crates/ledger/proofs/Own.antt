@@ -1,21 +1,21 @@
 -- The store's own service is a fair way.
-use Rattle.std.proofs.Common.{◌≡◌, ℕ, ◌+◌, ◌-◌, ◌<◌, ◌≤◌, Bool, true, false, cond, ◌&&◌, eqb, ltb, leb, List, [], ◌∷◌, length, filter, refl, ap, ◌∙◌, inl, inr, arith}
+use Rattle.std.proofs.Common.{◌≡◌, ℕ, ◌+◌, ◌-◌, ◌<◌, ◌≤◌, Bool, true, false, cond, ◌&&◌, eqb, ltb, leb, List, [], ◌∷◌, length, filter, refl, ◌∙◌, subst, inl, inr, arith}
 use Rattle.std.proofs.lemmas.Bool.{eqb-true}
 use Rattle.std.proofs.lemmas.Bool.Decides.{nat_tests}
 use Rattle.portions.specs.Sums.{total, sum}
 use Rattle.portions.specs.Portions.{Portion, fresh}
 use Rattle.portions.specs.Totals.{total-++}
 use Rattle.ledger.specs.Kinds.{Kind, LawfulKind}
-use Rattle.ledger.specs.Rules.{Rule, LawfulRule}
+use Rattle.ledger.specs.Rules.{Rule, Draw, LawfulRule}
 use Rattle.ledger.specs.Ledger.{Ledger, left_in, lefts}
 use Rattle.ledger.specs.Calls.Call.{open_for, enter, draw, turn}
 use Rattle.ledger.specs.Steps.{machine, taking, takings, stays_in}
-use Rattle.ledger.specs.History.{History, Had, reached, entered, drew}
+use Rattle.ledger.specs.History.{History, Had, at, reached, entered, drew}
 use Rattle.ledger.specs.Totals.{Entered, Used, Refunded, Lost, received}
 use Rattle.ledger.specs.Told.{Tells}
 use Rattle.ledger.specs.Ways.{Way, over_months, taken, way_used, Fair, remains, way_run_out, way_left_from}
 use Rattle.ledger.specs.Service.{taken_from, Own, left_from, ServesFairly}
-use Rattle.histories.proofs.Runs.{history_decides, Leads, holds}
+use Rattle.histories.proofs.Runs.{brought_there, Leads, holds}
 use Rattle.ledger.proofs.Lists.{Within, within, amounts_left_in, UpTo, stays_le, stays_gt}
 use Rattle.ledger.proofs.Store.{few_lefts, counts, sound, exact}
 use Rattle.ledger.proofs.Sums.{sum_zero, sum_same, sum-+, sum_one}
@@ -89,25 +89,23 @@ module _ {T : Type 0} (kind : Kind T) (m₀ : ℕ) where
   own_like : (v w : Way) (h : History T) → ((n : ℕ) → n < length h → (k : ℕ) → w n k ≡ v n k) → Own kind m₀ v h → Own kind m₀ w h
   own_like v w [] same own = tt
   own_like v w (drew d answer ∷ h) same own =
-      ((λ s had k. same (length h) (omega arith) k ∙ own.0 s had k), own_like v w h (λ n lt k. same n (omega (arith, lt)) k) own.1)
-  own_like v w (_ ∷ h) same own = own_like v w h (λ n lt k. same n (omega (arith, lt)) k) own
+      (λ k. same (length h) (omega arith) k ∙ own.0 k, own_like v w h (λ n lt k. same n (omega (arith, lt)) k) own.1)
+  own_like v w (_ ∷ h) same own = (tt, own_like v w h (λ n lt k. same n (omega (arith, lt)) k) own.1)
 
-  pub own_exists : (h : History T) (s : Ledger T) → Had kind m₀ h s → (way : Way) × Own kind m₀ way h
-  own_exists [] s had = ((λ n k. 0), tt)
-  own_exists (drew d answer ∷ h) s had =
-      let ih = own_exists h had.0 had.1 in
-      let was = had.0 in
+  pub own_exists : (h : History T) → (way : Way) × Own kind m₀ way h
+  own_exists [] = ((λ n k. 0), tt)
+  own_exists (drew d answer ∷ h) =
+      let ih = own_exists h in
+      let was : Ledger T = at kind m₀ h in
       let here : ℕ → ℕ = λ k. taken_from k (takings d.rule d.wanted was) was.portions in
       let way : Way = λ n k. cond (eqb n (length h)) (here k) (ih.0 n k) in (
         way,
         (
-          (λ s' had' k.
-              let at : cond (eqb (length h) (length h)) (here k) (ih.0 (length h) k) ≡ here k = grind (arith, nat_tests) in
-              at ∙ ap (λ (x : Ledger T). taken_from k (takings d.rule d.wanted x) x.portions) (history_decides (machine kind) m₀ h was s' had.1 had')),
+          (λ k. let z : ℕ = here k in let now : cond (eqb (length h) (length h)) z (ih.0 (length h) k) ≡ z = grind (arith, nat_tests) in now),
           own_like ih.0 way h (λ n lt k. let z : ℕ = here k in let old : cond (eqb n (length h)) z (ih.0 n k) ≡ ih.0 n k = grind (arith, nat_tests) in old) ih.1,
         ),
       )
-  own_exists (_ ∷ h) s had = own_exists h had.0 had.1
+  own_exists (_ ∷ h) = let ih = own_exists h in (ih.0, (tt, ih.1))
 
   -- what the portions of all months received is what was entered
   pub received_sum : (h : History T) (s : Ledger T) → Had kind m₀ h s → over_months (received m₀ h) ≡ Entered h
@@ -125,34 +123,39 @@ module _ {T : Type 0} (kind : Kind T) (m₀ : ℕ) where
       pub in_all : taken way h k ≤ received m₀ h k
       pub open_left : cond (leb (reached m₀ h) (k + kind.life)) (remains m₀ way h k) 0 ≡ left_at k s.portions
 
+    -- in a draw the way takes what the rule gave, where the store stood
+    own_there : (h : History T) (s : Ledger T) → Had kind m₀ h s → (d : Draw) → ((k : ℕ) → way (length h) k ≡ taken_from k (takings d.rule d.wanted (at kind m₀ h)) (at kind m₀ h).portions) →
+        (k : ℕ) → way (length h) k ≡ taken_from k (takings d.rule d.wanted s) s.portions
+    own_there h s had d gave = subst (λ x. (k : ℕ) → way (length h) k ≡ taken_from k (takings d.rule d.wanted x) x.portions) (brought_there (machine kind) m₀ h s had) gave
+
     leaves_lead : (k : ℕ) → Leads (machine kind) m₀ (λ h s. Own kind m₀ way h → Leaves h s k)
     leaves_lead k (open_for slots month) _ h s a own = absurd a.follows
     leaves_lead k (enter amount terms) _ h s a own =
-        let ih = a.so own in
+        let ih = a.so own.1 in
         let le = ih.in_all in
         let eq = ih.open_left in
-        let at = (sound kind m₀ h s a.had).month_is in
+        let month = (sound kind m₀ h s a.had).month_is in
         let more = total-++ (λ (p : Portion T). cond (eqb p.month k) p.left 0) s.portions (fresh s.month amount terms ∷ []) in
         record { in_all = omega (arith, le); open_left = grind (arith, nat_tests) }
     leaves_lead k (draw d) _ h s a own =
         let ih = a.so own.1 in
         let le = ih.in_all in
         let eq = ih.open_left in
-        let gave = own.0 s a.had k in
+        let gave = own_there h s a.had d own.0 k in
         let less = left_at_taking k (takings d.rule d.wanted s) s.portions (within a.follows s.month (lefts s) d.wanted (few_lefts kind law m₀ h s a.had)) in
         record { in_all = grind (arith, nat_tests); open_left = grind (arith, nat_tests) }
     leaves_lead k turn _ h s a own =
-        let ih = a.so own in
+        let ih = a.so own.1 in
         let le = ih.in_all in
         let eq = ih.open_left in
-        let at = (sound kind m₀ h s a.had).month_is in
+        let month = (sound kind m₀ h s a.had).month_is in
         let kept = left_at_kept kind.life k (s.month + 1) s.portions in
         record { in_all = le; open_left = grind (arith, nat_tests) }
 
     leaves : (h : History T) (s : Ledger T) → Had kind m₀ h s → Own kind m₀ way h → (k : ℕ) → Leaves h s k
     leaves h s had own k =
         holds (machine kind) m₀ (λ h s. Own kind m₀ way h → Leaves h s k) (λ opens own. record { in_all = omega arith; open_left = grind (arith, nat_tests) })
-        (leaves_lead k) (λ call fault h s so own. let was = so own in assumption) h s had own
+        (leaves_lead k) (λ call fault h s so own. let was = so own.1 in assumption) h s had own
 
     own_draw : (rule : Rule) → LawfulRule rule → (wanted : ℕ) (h : History T) (s : Ledger T) → Had kind m₀ h s → Own kind m₀ way h →
         ((k : ℕ) → way (length h) k ≡ taken_from k (takings rule wanted s) s.portions) → over_months (way (length h)) ≡ sum (takings rule wanted s)
@@ -165,7 +168,7 @@ module _ {T : Type 0} (kind : Kind T) (m₀ : ℕ) where
     own_fair [] s had own = tt
     own_fair (drew d answer ∷ h) s had own =
         let was = had.0 in
-        let gave = own.0 was had.1 in (
+        let gave = own_there h was had.1 d own.0 in (
           record {
             at_most_wanted = omega (arith, own_draw d.rule had.2.3 d.wanted h was had.1 own.1 gave, had.2.3.full was.month d.wanted (lefts was) (few_lefts kind law m₀ h was had.1));
             from_open = λ k lt.
@@ -176,13 +179,13 @@ module _ {T : Type 0} (kind : Kind T) (m₀ : ℕ) where
           },
           own_fair h was had.1 own.1,
         )
-    own_fair (_ ∷ h) s had own = own_fair h had.0 had.1 own
+    own_fair (_ ∷ h) s had own = (tt, own_fair h had.0 had.1 own.1)
 
     own_used : (h : History T) (s : Ledger T) → Had kind m₀ h s → Own kind m₀ way h → way_used way h ≡ Used h
     own_used [] s had own = refl
     own_used (drew d answer ∷ h) s had own =
-        omega (arith, own_used h had.0 had.1 own.1, own_draw d.rule had.2.3 d.wanted h had.0 had.1 own.1 (own.0 had.0 had.1), had.2.1)
-    own_used (_ ∷ h) s had own = own_used h had.0 had.1 own
+        omega (arith, own_used h had.0 had.1 own.1, own_draw d.rule had.2.3 d.wanted h had.0 had.1 own.1 (own_there h had.0 had.1 d own.0), had.2.1)
+    own_used (_ ∷ h) s had own = own_used h had.0 had.1 own.1
 
     own_left : (h : History T) (s : Ledger T) → Had kind m₀ h s → Own kind m₀ way h → (m : ℕ) → way_left_from kind m₀ way h m ≡ left_from m s.portions
     own_left h s had own m =

@@ -17,7 +17,7 @@ module _ {T : Type 0} (kind : Kind T) (law : LawfulKind kind) where
     exactly = tells_open kind m₀ h s had;
     few = few_open kind m₀ h s had;
     best = oldest_best kind law m₀ h s had;
-    own = own_exists kind m₀ h s had;
+    own = own_exists kind m₀ h;
     fairly = serves_fairly kind law m₀ h s had;
     rightly = all_rightly kind m₀ h s had;
   }

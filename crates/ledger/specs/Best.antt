@@ -1,19 +1,23 @@
 -- Oldest first is best: no other way of serving the draws uses more, or lets less run out.
-use Rattle.std.specs.Prelude.{◌≡◌, ℕ, ◌+◌, ◌≤◌, [], ◌∷◌}
+use Rattle.std.specs.Prelude.{◌≡◌, ℕ, ◌+◌, ◌≤◌}
 use Rattle.portions.specs.Taking.{oldest}
+use Rattle.histories.specs.Histories.{Always}
 use Rattle.ledger.specs.Kinds.{Kind}
-use Rattle.ledger.specs.Ledger.{Ledger, lefts}
+use Rattle.ledger.specs.Ledger.{lefts}
 use Rattle.ledger.specs.Steps.{takings}
-use Rattle.ledger.specs.History.{History, Had, drew}
+use Rattle.ledger.specs.History.{Event, History, at, drew}
 use Rattle.ledger.specs.Totals.{Used, Refunded, Lost}
 use Rattle.ledger.specs.Ways.{Way, way_used, way_run_out}
 
--- every accepted draw went oldest first: where the store stood at s before it, its rule gave those takings
-abbrev pub WentOldestFirst : {T : Type 0} → Kind T → ℕ → History T → Type 0
-WentOldestFirst kind m₀ [] = Unit {0}
-WentOldestFirst {T} kind m₀ (drew d answer ∷ h) =
-    ((s : Ledger T) → Had kind m₀ h s → takings d.rule d.wanted s ≡ oldest (lefts s) d.wanted) × WentOldestFirst kind m₀ h
-WentOldestFirst kind m₀ (_ ∷ h) = WentOldestFirst kind m₀ h
+module _ {T : Type 0} (kind : Kind T) (m₀ : ℕ) where
+  -- an accepted draw after the calls h went oldest first: where they had brought the store, its rule gave those takings
+  abbrev pub OldestFirst : History T → Event T → Type 0
+  OldestFirst h (drew d answer) = takings d.rule d.wanted (at kind m₀ h) ≡ oldest (lefts (at kind m₀ h)) d.wanted
+  OldestFirst h _ = Unit {0}
+
+  -- every accepted draw did
+  abbrev pub WentOldestFirst : History T → Type 0
+  WentOldestFirst h = Always OldestFirst h
 
 -- another way has used at most as much as the store's answers say, and let at least as much run out
 pub record NoBetter {T : Type 0} (kind : Kind T) (m₀ : ℕ) (h : History T) (way : Way) : Type 0 where

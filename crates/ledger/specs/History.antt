@@ -33,6 +33,10 @@ module _ {T : Type 0} where
   abbrev pub Had : Kind T → ℕ → History T → Ledger T → Type 0
   Had kind m₀ h s = histories.Had (machine kind) m₀ h s
 
+  -- where the calls h bring it
+  abbrev pub at : Kind T → ℕ → History T → Ledger T
+  at kind m₀ h = histories.brought (machine kind) m₀ h
+
   -- the month reached: that of the opening and one for each accepted turn
   abbrev pub reached : ℕ → History T → ℕ
   reached m₀ [] = m₀

@@ -1,11 +1,12 @@
 -- The store's own service, as one of the ways of serving the draws.
 use Rattle.std.specs.Prelude.{◌≡◌, ℕ, ◌+◌, cond, List, [], ◌∷◌, length, ◌==◌, nat_le}
+use Rattle.histories.specs.Histories.{Always}
 use Rattle.portions.specs.Sums.{total}
 use Rattle.portions.specs.Portions.{Portion}
 use Rattle.ledger.specs.Kinds.{Kind}
 use Rattle.ledger.specs.Ledger.{Ledger}
 use Rattle.ledger.specs.Steps.{takings}
-use Rattle.ledger.specs.History.{History, Had, drew}
+use Rattle.ledger.specs.History.{Event, History, at, drew}
 use Rattle.ledger.specs.Totals.{Used, Refunded, Lost}
 use Rattle.ledger.specs.Ways.{Way, Fair, way_used, way_run_out, way_left_from}
 
@@ -16,12 +17,14 @@ module _ {T : Type 0} where
   taken_from k (x ∷ xs) [] = 0
   taken_from k (x ∷ xs) (p ∷ ps) = cond (p.month == k) x 0 + taken_from k xs ps
 
-  -- the way is the store's own: in each accepted draw it takes what the rule gave
+  -- in an accepted draw after the calls h the way takes what the rule gave
+  abbrev pub OwnDraw : Kind T → ℕ → Way → History T → Event T → Type 0
+  OwnDraw kind m₀ way h (drew d answer) = (k : ℕ) → way (length h) k ≡ taken_from k (takings d.rule d.wanted (at kind m₀ h)) (at kind m₀ h).portions
+  OwnDraw kind m₀ way h _ = Unit {0}
+
+  -- the way is the store's own: it does so in every accepted draw
   abbrev pub Own : Kind T → ℕ → Way → History T → Type 0
-  Own kind m₀ way [] = Unit {0}
-  Own kind m₀ way (drew d answer ∷ h) =
-      ((s : Ledger T) → Had kind m₀ h s → (k : ℕ) → way (length h) k ≡ taken_from k (takings d.rule d.wanted s) s.portions) × Own kind m₀ way h
-  Own kind m₀ way (_ ∷ h) = Own kind m₀ way h
+  Own kind m₀ way h = Always (OwnDraw kind m₀ way) h
 
   -- what is left in the open portions of month m and later
   abbrev pub left_from : ℕ → List (Portion T) → ℕ

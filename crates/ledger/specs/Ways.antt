@@ -1,7 +1,8 @@
 -- Another way of serving the draws of a history, with the same enters and turns.
 use Rattle.std.specs.Prelude.{ℕ, zero, suc, ◌+◌, ◌-◌, ◌<◌, ◌≤◌, cond, ◌&&◌, [], ◌∷◌, length, nat_le, nat_lt}
+use Rattle.histories.specs.Histories.{Always}
 use Rattle.ledger.specs.Kinds.{Kind}
-use Rattle.ledger.specs.History.{History, reached, drew}
+use Rattle.ledger.specs.History.{Event, History, reached, drew}
 use Rattle.ledger.specs.Totals.{received}
 use Rattle.ledger.specs.Told.{WasEntered}
 
@@ -42,11 +43,14 @@ module _ {T : Type 0} where
     pub from_open : (k : ℕ) → 0 < takes k → Open kind m₀ h k
     pub within_received : (k : ℕ) → before k + takes k ≤ received m₀ h k
 
-  -- a way is fair if its takings in each accepted draw are
+  -- in an accepted draw after the calls h the way's takings are
+  abbrev pub FairIn : Kind T → ℕ → Way → History T → Event T → Type 0
+  FairIn kind m₀ way h (drew d answer) = FairDraw kind m₀ h d.wanted (taken way h) (way (length h))
+  FairIn kind m₀ way h _ = Unit {0}
+
+  -- a way is fair if they are in every accepted draw
   abbrev pub Fair : Kind T → ℕ → Way → History T → Type 0
-  Fair kind m₀ way [] = Unit {0}
-  Fair kind m₀ way (drew d answer ∷ h) = FairDraw kind m₀ h d.wanted (taken way h) (way (length h)) × Fair kind m₀ way h
-  Fair kind m₀ way (_ ∷ h) = Fair kind m₀ way h
+  Fair kind m₀ way h = Always (FairIn kind m₀ way) h
 
   -- what a way leaves of the portion of month k
   abbrev pub remains : ℕ → Way → History T → ℕ → ℕ

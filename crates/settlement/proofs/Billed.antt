@@ -1,11 +1,14 @@
 -- What every billing account keeps from call to call, and that it keeps its promise.
-use Rattle.std.proofs.Common.{◌≡◌, ℕ, ◌+◌, ◌∙◌, ◌<◌, ◌≤◌, true, false, None, ◌⊎◌, ◌∷◌, ◌++◌, sym, refl, subst, inl, inr, arith}
+use Rattle.std.proofs.Common.{◌≡◌, ℕ, ◌+◌, ◌∙◌, ◌<◌, ◌≤◌, true, false, None, ◌⊎◌, List, [], ◌∷◌, ◌++◌, sym, refl, subst, inl, inr, arith}
 use Rattle.std.proofs.lemmas.List.{append-nil}
 use Rattle.hours.specs.declared.sums.MonthSums.{MonthSums}
-use Rattle.histories.proofs.Runs.{Begins, Leads, holds}
+use Rattle.portions.specs.Sums.{sum}
+use Rattle.std.proofs.lemmas.Bool.{cases_lt}
+use Rattle.histories.specs.Histories.{Always}
+use Rattle.histories.proofs.Runs.{brought_there, Begins, Leads, holds}
 use Rattle.ledger.specs.Kinds.{LawfulKind}
 use Rattle.ledger.specs.Rules.{Rule, LawfulRule}
-use Rattle.ledger.specs.Ledger.{Ledger, lefts, has}
+use Rattle.ledger.specs.Ledger.{Ledger, left_in, lefts, has}
 use Rattle.ledger.specs.Steps as store_steps
 use Rattle.ledger.specs.Service.{taken_from}
 use Rattle.ledger.specs.Steps.{taking, entering, drawing, turning, refunds, losses}
@@ -17,13 +20,15 @@ use Rattle.settlement.specs.declared.answers.Payment.{Payment}
 use Rattle.settlement.specs.declared.states.MonthState.{MonthState}
 use Rattle.settlement.specs.declared.states.MonthState.TheVariants.{Waiting, Entered, Settled}
 use Rattle.settlement.specs.Kinds.{deposit}
-use Rattle.settlement.specs.Accounts.{refusal, machine}
+use Rattle.settlement.specs.Accounts.{Covering, refusal, machine}
 use Rattle.settlement.specs.Accounts.Call.{open_for, enter, settle, turn}
 use Rattle.settlement.specs.History.{History, Had, unsettled, reached, month_state, entered, settled, turned}
 use Rattle.settlement.specs.Inside.{at, draws_on, store_calls}
-use Rattle.settlement.specs.Took.{takes_from, took}
+use Rattle.settlement.specs.Coverings.{covered_in, used_from, Lawful}
+use Rattle.settlement.specs.Told.{takes_from, took}
+use Rattle.settlement.specs.Decided.{SettlementsDecided}
 use Rattle.settlement.specs.Refusals.{stands}
-use Rattle.settlement.specs.Promises.{KeepsPromise}
+use Rattle.settlement.specs.Promises.{StoreKeeps, KeepsPromise}
 use Rattle.settlement.specs.Billing.{BillAccount, BillOpening, billing, paid, month_deposit, month_cap, month_bill, entering_bill, settling_bill, turning_bill}
 use Rattle.settlement.proofs.Cover.{draw_sum, draw_left, length_taking}
 use Rattle.settlement.proofs.Lines.{few_lines_of, Less, less_none, less_taking, lines_less, lines_sum}
@@ -32,8 +37,11 @@ use Rattle.settlement.proofs.Rightly.{standing_is, all_rightly}
 use Rattle.settlement.proofs.Openings.{opened_so, bill_opened, bill_refused}
 use Rattle.settlement.proofs.Sums.{deposit_small, bill_small}
 use Rattle.settlement.proofs.Trace.{had_enter, had_draw, had_turn, turned_free}
-use Rattle.settlement.proofs.Inside.{Drawn, brought_there, at_there, all_settled, turns_told}
-use Rattle.settlement.proofs.Keeps.{store_keeps}
+use Rattle.settlement.proofs.Inside.{at_there}
+use Rattle.settlement.proofs.Coverings.{all_used}
+use Rattle.settlement.proofs.Settled.{Shown, all_settled}
+use Rattle.settlement.proofs.Turned.{turns_told}
+use Rattle.settlement.proofs.Keeps.{store_keeps, account_best}
 
 lawful : LawfulKind deposit
 lawful = record { life_from = omega arith; life_to = omega arith; refund_within = λ p. omega arith }
@@ -84,7 +92,7 @@ module _ (o : BillOpening) where
       had =
           let calls = store_calls billing o tt h in
           let small = subst (λ (s : MonthState). Billed s b.bill) is ih.few in
-          subst (λ x. store.Had deposit o.month (draws_on billing tt rule (billing.draws rule x) ++ calls) (drawing (paid rule b) b.store)) (sym here)
+          subst (λ x. store.Had deposit o.month (draws_on billing tt rule (billing.coverings rule x) ++ calls) (drawing (paid rule b) b.store)) (sym here)
           (had_draw deposit o.month calls b.store ih.had rule law b.bill (omega (arith, small)));
     }
 
@@ -124,42 +132,74 @@ module _ (o : BillOpening) where
 told : (o : BillOpening) (h : Calls) (b : BillAccount) → Had billing o h b → billing.standing b ≡ stands billing o h
 told o h b had = let s = sound o h b had in standing_is _ _ _ _ _ _ true s.is_open s.state_is s.month_is
 
-drawn : (o : BillOpening) (h : Calls) (b : BillAccount) → Had billing o h b → (rule : Rule) → LawfulRule rule → (lines : ℕ) → refusal billing (settle rule lines) b ≡ None → Drawn billing o h b rule
-drawn o h b had rule law lines none =
+shown : (o : BillOpening) (h : Calls) (b : BillAccount) → Had billing o h b → (rule : Rule) → LawfulRule rule → (lines : ℕ) → refusal billing (settle rule lines) b ≡ None → Shown billing o h b rule
+shown o h b had rule law lines none =
+    let all = draw_sum rule law b.bill b.store in
     let held = (sound o h b had).had in
     let takes = paid rule b in
     let calls = store_calls billing o tt h in
     let few = few_lefts deposit lawful o.month calls b.store held in
     let all = draw_sum rule law b.bill b.store few in
     let there = brought_there (store_steps.machine deposit) o.month calls b.store held in
-    let less' : Less (λ k. 0 + taken_from k takes b.store.portions) b.store.portions (taking takes b.store.portions) =
+    let less' : Less (λ k. taken_from k takes b.store.portions + 0) b.store.portions (taking takes b.store.portions) =
     less_taking (λ k. 0) 0 takes b.store.portions b.store.portions (stores.sound deposit o.month calls b.store held).rising (within law b.store.month (lefts b.store) b.bill few) (less_none b.store.portions) in
-    let less : Less (took billing o rule tt calls (billing.draws rule b)) b.store.portions (taking takes b.store.portions) = subst (λ (s : Ledger ℕ). Less (λ k. 0 + takes_from billing rule b.bill s k) b.store.portions (taking takes b.store.portions)) (sym there) less' in
+    let less : Less (took billing o h rule tt (billing.coverings rule b)) b.store.portions (taking takes b.store.portions) = subst (λ (s : Ledger ℕ). Less (λ k. takes_from billing rule b.bill s k + 0) b.store.portions (taking takes b.store.portions)) (sym there) less' in
     record {
-      lawful = ((record { rest_is = omega arith; enough = omega arith; least = λ w le. omega arith; used_is = omega (arith, all); covers_is = omega (arith, all) }, λ other used. absurd (other refl)), tt);
+      lawful = (record { earned = record { rest_is = omega arith; enough = omega arith; least = λ w le. omega arith; used_is = omega (arith, all); within_rest = omega (arith, all); paid_for = omega arith; largest = λ v few paid. omega (arith, paid) }; in_turn = λ other used. absurd (other refl) }, tt);
       covered_is = λ z. omega arith;
       due_is = λ z. omega (arith, all);
       due_only_when_empty = λ z short from. omega (arith, short, all, draw_left rule law b.bill b.store few);
       risen = λ z. omega arith;
+      for_zones = refl;
       lines = record {
         told = lines_less None _ b.store.portions (taking takes b.store.portions) less ∙ sym (append-nil _);
         counted = refl;
-        add_up = λ z. omega (arith, lines_sum None (took billing o rule tt calls (billing.draws rule b)) b.store.portions (taking takes b.store.portions) less, draw_left rule law b.bill b.store few);
+        add_up = λ z. omega (arith, lines_sum None (took billing o h rule tt (billing.coverings rule b)) b.store.portions (taking takes b.store.portions) less, draw_left rule law b.bill b.store few);
       };
+    }
+
+-- lawful coverings of a bill cover no more than it, and use no more than is left
+module _ (o : BillOpening) (b : BillAccount) where
+  covered_few : (cs : List (Covering (Unit {0}))) → Always (Lawful billing o b) cs → covered_in billing tt cs ≤ b.bill
+  covered_few [] so = omega arith
+  covered_few (c ∷ cs) so = omega (arith, so.0.earned.rest_is, so.0.earned.within_rest)
+
+  used_few : (cs : List (Covering (Unit {0}))) → Always (Lawful billing o b) cs → used_from billing tt cs ≤ left_in b.store.portions
+  used_few [] so = omega arith
+  used_few (c ∷ cs) so = omega (arith, so.0.earned.used_is, used_few cs so.1)
+
+-- so they come to what the settlement does
+pub bill_decided : SettlementsDecided billing
+bill_decided o h b had rule law lines none cs serves =
+    let all = draw_sum rule law b.bill b.store (few_lefts deposit lawful o.month (store_calls billing o tt h) b.store (sound o h b had).had) in
+    let covered = covered_few o b cs serves.lawful in
+    let used = used_few o b cs serves.lawful in
+    let at_par = all_used billing o b refl cs serves.lawful tt in
+    let whole : covered_in billing tt cs ≡ sum (paid rule b) = elim (cases_lt (covered_in billing tt cs) b.bill) [
+      | inl less ↦ let empty = serves.complete tt less tt in omega (arith, all, covered, at_par, empty)
+      | inr le ↦ omega (arith, all, covered, used, at_par, le)
+    ] in
+    record {
+      covered_is = λ z. omega (arith, whole);
+      due_is = λ z. omega (arith, whole, all);
+      risen = λ z. omega (arith, whole, at_par);
     }
 
 pub billing_keeps : KeepsPromise billing
 billing_keeps o h b had =
     let s = sound o h b had in
+    let stores : (z : Unit {0}) → StoreKeeps billing o h b z (store_calls billing o z h) = λ z. store_keeps billing lawful o h b z s.had in
+    let turned = turns_told billing (λ a. omega arith) (λ a. omega arith) o h b had in
     record {
       had = had;
       opened_rightly = bill_opened o (opened_so billing o h b had);
       standing_told = told o h b had;
       rightly = all_rightly billing told bill_refused o h b had;
       pending_told = λ z. s.bill_is;
-      stores = λ z. store_keeps billing lawful o h b z s.had;
-      settled = all_settled billing drawn o h b had;
-      turns_told = turns_told billing (λ a. omega arith) (λ a. omega arith) o h b had;
+      stores = stores;
+      settled = all_settled billing shown o h b had;
+      turns_told = turned;
+      best = account_best billing o h b stores turned;
       few_lines = λ rule.
           let few = few_open deposit o.month (store_calls billing o tt h) b.store s.had in
           let long = length_taking (paid rule b) b.store.portions in

@@ -8,11 +8,12 @@ use Rattle.settlement.specs.declared.zones.Zones.{Zones}
 use Rattle.settlement.specs.Zones.{of, put, each}
 use Rattle.histories.specs.Histories.{Always}
 use Rattle.ledger.specs.Ledger.{Ledger, left_in}
-use Rattle.settlement.specs.Accounts.{Draw}
-use Rattle.settlement.specs.Settled.{covered_in, used_from, Emptied, Covered, Lawful}
+use Rattle.settlement.specs.Accounts.{Covering}
+use Rattle.settlement.specs.Coverings.{covered_in, used_from, Emptied, Covered, Lawful}
 use Rattle.settlement.specs.Metering.{MeterAccount, MeterOpening, metering, coefficient_for, wanted, covered, own_stores, other_stores}
 use Rattle.settlement.specs.Decided.{Serves}
 use Rattle.settlement.proofs.ByZone.{of_put, of_each, put_either}
+use Rattle.settlement.proofs.Coverings.{largest_is}
 use Rattle.settlement.proofs.Cover.{coefficient_low, wanted_serves, short_empties, wanted_least}
 
 -- what is not covered in each zone, and what is left in each store
@@ -184,48 +185,48 @@ module _ (o : MeterOpening) (a : MeterAccount) where
   abbrev start : Way
   start = record { rests = a.pending; lefts = each (λ (s : Ledger (Unit {0})). left_in s.portions) a.stores }
 
-  abbrev way_of : List (Draw Zone) → Way
+  abbrev way_of : List (Covering Zone) → Way
   way_of [] = start
   way_of (d ∷ ds) = step c some_tenths (d.zone, d.from) (way_of ds)
 
-  pub record Reached (ds : List (Draw Zone)) (w : Way) : Type 0 where
+  pub record Reached (ds : List (Covering Zone)) (w : Way) : Type 0 where
     pub rests_are : (z : Zone) → of z w.rests + covered_in metering z ds ≡ of z a.pending
     pub lefts_are : (z : Zone) → of z w.lefts + used_from metering z ds ≡ left_in (of z a.stores).portions
 
-  reached : (ds : List (Draw Zone)) → Always (Lawful metering o a) ds → Reached ds (way_of ds)
+  reached : (ds : List (Covering Zone)) → Always (Lawful metering o a) ds → Reached ds (way_of ds)
   reached [] lawful = record { rests_are = λ z. omega arith; lefts_are = λ z. omega (arith, of_each (λ (s : Ledger (Unit {0})). left_in s.portions) z a.stores) }
   reached (d ∷ ds) lawful =
       let ih = reached ds lawful.1 in
       let w = way_of ds in
-      let e = lawful.0.0 in
+      let e = lawful.0.earned in
       let rest : d.rest ≡ of d.zone w.rests = omega (arith, e.rest_is, ih.rests_are d.zone) in
       let want : d.wanted ≡ wanted c d.rest = omega (arith, wanted_least c d.rest d.wanted some_tenths e.enough, e.least (wanted c d.rest) (wanted_serves c d.rest some_tenths)) in
       let left : left_in (of d.from a.stores).portions - used_from metering d.from ds ≡ of d.from w.lefts = omega (arith, ih.lefts_are d.from) in
       let want' : d.wanted ≡ wanted c (of d.zone w.rests) = want ∙ ap (wanted c) rest in
       let used : d.used ≡ min (wanted c (of d.zone w.rests)) (of d.from w.lefts) = omega (arith, e.used_is, want', left) in
-      let covers : d.covers ≡ covered c (of d.zone w.rests) (min (wanted c (of d.zone w.rests)) (of d.from w.lefts)) = e.covers_is ∙ ap (λ r. covered c r d.used) rest ∙ ap (covered c (of d.zone w.rests)) used in
+      let covers : d.covers ≡ covered c (of d.zone w.rests) (min (wanted c (of d.zone w.rests)) (of d.from w.lefts)) = largest_is d.rest (d.used * coefficient_for o.power) d.covers e.within_rest e.paid_for e.largest ∙ ap (λ r. covered c r d.used) rest ∙ ap (covered c (of d.zone w.rests)) used in
       record {
-        rests_are = put_either (λ b z r. r + (covered_in metering z ds + cond b d.covers 0) ≡ of z a.pending) d.zone (of d.zone w.rests - covered c (of d.zone w.rests) (min (wanted c (of d.zone w.rests)) (of d.from w.lefts))) w.rests
+        rests_are = put_either (λ b z r. r + (cond b d.covers 0 + covered_in metering z ds) ≡ of z a.pending) d.zone (of d.zone w.rests - covered c (of d.zone w.rests) (min (wanted c (of d.zone w.rests)) (of d.from w.lefts))) w.rests
             (omega (arith, ih.rests_are d.zone, covers)) (λ z. omega (arith, ih.rests_are z));
-        lefts_are = put_either (λ b z l. l + (used_from metering z ds + cond b d.used 0) ≡ left_in (of z a.stores).portions) d.from (of d.from w.lefts - min (wanted c (of d.zone w.rests)) (of d.from w.lefts)) w.lefts
+        lefts_are = put_either (λ b z l. l + (cond b d.used 0 + used_from metering z ds) ≡ left_in (of z a.stores).portions) d.from (of d.from w.lefts - min (wanted c (of d.zone w.rests)) (of d.from w.lefts)) w.lefts
             (omega (arith, ih.lefts_are d.from, used)) (λ z. omega (arith, ih.lefts_are z));
       }
 
   abbrev ends : Way → Way
   ends w = passes c some_tenths w
 
-  used_is : (ds : List (Draw Zone)) (d : Draw Zone) → Always (Lawful metering o a) (d ∷ ds) → d.used ≡ min (wanted c (of d.zone (way_of ds).rests)) (of d.from (way_of ds).lefts)
+  used_is : (ds : List (Covering Zone)) (d : Covering Zone) → Always (Lawful metering o a) (d ∷ ds) → d.used ≡ min (wanted c (of d.zone (way_of ds).rests)) (of d.from (way_of ds).lefts)
   used_is ds d lawful =
       let ih = reached ds lawful.1 in
       let w = way_of ds in
-      let e = lawful.0.0 in
+      let e = lawful.0.earned in
       let rest : d.rest ≡ of d.zone w.rests = omega (arith, e.rest_is, ih.rests_are d.zone) in
       let want : d.wanted ≡ wanted c d.rest = omega (arith, wanted_least c d.rest d.wanted some_tenths e.enough, e.least (wanted c d.rest) (wanted_serves c d.rest some_tenths)) in
       let left : left_in (of d.from a.stores).portions - used_from metering d.from ds ≡ of d.from w.lefts = omega (arith, ih.lefts_are d.from) in
       let want' : d.wanted ≡ wanted c (of d.zone w.rests) = want ∙ ap (wanted c) rest in
       omega (arith, e.used_is, want', left)
 
-  same_end : (ds : List (Draw Zone)) → Always (Lawful metering o a) ds → ends (way_of ds) ≡ ends start
+  same_end : (ds : List (Covering Zone)) → Always (Lawful metering o a) ds → ends (way_of ds) ≡ ends start
   same_end [] lawful = refl
   same_end (d ∷ ds) lawful =
       let ih = same_end ds lawful.1 in
@@ -239,14 +240,14 @@ module _ (o : MeterOpening) (a : MeterAccount) where
             absorbed c some_tenths (d.zone, d.from) (own_stores ++ other_stores) w
             (meets c some_tenths d.zone d.from w
             (λ ne.
-            let t = lawful.0.1 ne some in
-            record { own = gone d.zone t.own_first; owner = met d.from t.owner_first; stores = λ k nk lt. gone k (t.lower_stores_first k nk lt); zones = λ k lt. met k (t.lower_zones_first k lt) }))
+            let t = lawful.0.in_turn ne some in
+            record { own = gone d.zone t.own_store_first; owner = met d.from t.own_zone_first; stores = λ k nk lt. gone k (t.lower_stores_first k nk lt); zones = λ k lt. met k (t.lower_zones_first k lt) }))
             ∙ ih
         | inr le ↦ ap ends (idle c some_tenths d.zone d.from w (none_used c some_tenths (of d.zone w.rests) (of d.from w.lefts) (omega (arith, used, le)))) ∙ ih
       ]
 
   -- so all such draws of a settlement cover and use the same
-  at_end : (ds : List (Draw Zone)) → Serves metering o a ds → way_of ds ≡ ends start
+  at_end : (ds : List (Covering Zone)) → Serves metering o a ds → way_of ds ≡ ends start
   at_end ds s =
       let r = reached ds s.lawful in
       let w = way_of ds in
@@ -256,7 +257,7 @@ module _ (o : MeterOpening) (a : MeterAccount) where
       all_idle zero left x y p l e f g = inl refl
       all_idle (suc rest) left x y p l e f g = inr (omega (arith, f, g (omega (arith, e))))
 
-  pub decided : (ds ds' : List (Draw Zone)) → Serves metering o a ds → Serves metering o a ds' → (z : Zone) → (covered_in metering z ds ≡ covered_in metering z ds') × (used_from metering z ds ≡ used_from metering z ds')
+  pub decided : (ds ds' : List (Covering Zone)) → Serves metering o a ds → Serves metering o a ds' → (z : Zone) → (covered_in metering z ds ≡ covered_in metering z ds') × (used_from metering z ds ≡ used_from metering z ds')
   decided ds ds' s s' z =
       let one = reached ds s.lawful in
       let two = reached ds' s'.lawful in

@@ -8,6 +8,7 @@ use Rattle.histories.proofs.Keeps as histories
 use Rattle.hours.specs.declared.sums.MonthSums.{MonthSums}
 use Rattle.ledger.specs.Kinds.{LawfulKind}
 use Rattle.ledger.specs.History as store
+use Rattle.ledger.specs.Ways.{Way, Fair}
 use Rattle.ledger.proofs.Promise.{promised}
 use Rattle.settlement.specs.declared.answers.Returned.{Returned}
 use Rattle.settlement.specs.Accounts.{Call, Answer, Follows, Workings, refusal, machine}
@@ -16,17 +17,29 @@ use Rattle.settlement.specs.Steps.{hands_back, enter_answer}
 use Rattle.settlement.specs.History.{Event, History, enter_event, entered}
 use Rattle.settlement.specs.Promises.{Promised, StoreKeeps, KeepsPromise, Keeps, OpenKeeps}
 use Rattle.settlement.specs.Inside.{store_calls}
-use Rattle.settlement.proofs.Inside.{entered_is, none_refused, oldest_first}
+use Rattle.settlement.specs.Turned.{TurnsTold}
+use Rattle.settlement.specs.Best.{WentOldestFirst, NoneBetter}
+use Rattle.settlement.proofs.Inside.{entered_is, none_refused}
+use Rattle.settlement.proofs.Oldest.{oldest_first, by_rules, none_better}
 
 module _ {O A S Z T : Type 0} (works : Workings O A S Z T) where
   -- a store that has had them keeps the promise of stores
   pub store_keeps : LawfulKind works.kind → (o : O) (h : History O S) (a : A) (z : Z) → store.Had works.kind (works.own_month o) (store_calls works o z h) (works.store a z) → StoreKeeps works o h a z (store_calls works o z h)
-  store_keeps law o h a z had = record {
-    promised = promised works.kind law (works.own_month o) (store_calls works o z h) (works.store a z) had;
-    entered_is = entered_is works o z h;
-    none_refused = none_refused works o z h;
-    oldest_first = oldest_first works o z (works.own_month o) h;
-  }
+  store_keeps law o h a z had =
+      let kept = promised works.kind law (works.own_month o) (store_calls works o z h) (works.store a z) had in
+      record {
+        promised = kept;
+        entered_is = entered_is works o z h;
+        none_refused = none_refused works o z h;
+        oldest_first = oldest_first works o z h;
+        best = λ went. kept.best (oldest_first works o z h went);
+        by_rules = by_rules works o z law h (works.store a z) had;
+      }
+
+  -- and over all stores no other ways are better
+  pub account_best : (o : O) (h : History O S) (a : A) → ((z : Z) → StoreKeeps works o h a z (store_calls works o z h)) → TurnsTold works o h → ((z : Z) → WentOldestFirst works o z h) →
+      (ways : Z → Way) → ((z : Z) → Fair works.kind (works.own_month o) (ways z) (store_calls works o z h)) → NoneBetter works o h ways
+  account_best o h a stores told went ways fair = none_better works o h told ways (λ z. (stores z).best (went z) (ways z) (fair z))
 
 module _ {O A S Z T : Type 0} (works : Workings O A S Z T) (law : KeepsPromise works) (a a' : A) where
   keeps : (e : Event O S) → Does (machine works) a e a' → Keeps works a e a'

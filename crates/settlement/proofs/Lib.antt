@@ -6,6 +6,10 @@ pub mod Cover
 pub mod Decided
 mod Trace
 mod Inside
+mod Coverings
+mod Turned
+mod Settled
+mod Oldest
 pub mod Lines
 pub mod Keeps
 pub mod Sums

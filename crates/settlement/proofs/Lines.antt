@@ -50,7 +50,7 @@ module _ {T : Type 0} where
       let other : eqb p.month k ≡ false = ne_eqb p.month k (λ e. omega (arith, r.0, e)) in
       omega (arith, ih, ap (λ t. cond t x 0) other)
 
-  pub less_taking : (f : ℕ → ℕ) (b : ℕ) (xs : List ℕ) (before ps : List (Portion T)) → RisingFrom b ps → Within xs (amounts_left_in ps) → Less f before ps → Less (λ k. f k + taken_from k xs ps) before (taking xs ps)
+  pub less_taking : (f : ℕ → ℕ) (b : ℕ) (xs : List ℕ) (before ps : List (Portion T)) → RisingFrom b ps → Within xs (amounts_left_in ps) → Less f before ps → Less (λ k. taken_from k xs ps + f k) before (taking xs ps)
   less_taking f b [] [] [] r w l = tt
   less_taking f b [] before (p ∷ ps) r w l = absurd w
   less_taking f b (x ∷ xs) before [] r w l = absurd w
@@ -60,12 +60,12 @@ module _ {T : Type 0} where
       let here : eqb p.month p.month ≡ true = eq-eqb p.month p.month refl in
       let none = taken_none p.month (p.month + 1) (omega arith) xs ps r.1 in
       let ih = less_taking f (p.month + 1) xs before ps r.1 w.1 l.1 in
-      let same : (k : ℕ) → p.month + 1 ≤ k → f k + taken_from k xs ps ≡ f k + (cond (eqb p.month k) x 0 + taken_from k xs ps) = λ k le. later k le in (
+      let same : (k : ℕ) → p.month + 1 ≤ k → taken_from k xs ps + f k ≡ (cond (eqb p.month k) x 0 + taken_from k xs ps) + f k = λ k le. later k le in (
         omega (arith, l.0, w.0, none, ap (λ t. cond t x 0) here),
-        less_same (λ k. f k + taken_from k xs ps) (λ k. f k + (cond (eqb p.month k) x 0 + taken_from k xs ps)) (p.month + 1) same before (taking xs ps) (rising_taking (p.month + 1) xs ps r.1) ih,
+        less_same (λ k. taken_from k xs ps + f k) (λ k. (cond (eqb p.month k) x 0 + taken_from k xs ps) + f k) (p.month + 1) same before (taking xs ps) (rising_taking (p.month + 1) xs ps r.1) ih,
       )
     where
-      later : (k : ℕ) → p.month + 1 ≤ k → f k + taken_from k xs ps ≡ f k + (cond (eqb p.month k) x 0 + taken_from k xs ps)
+      later : (k : ℕ) → p.month + 1 ≤ k → taken_from k xs ps + f k ≡ (cond (eqb p.month k) x 0 + taken_from k xs ps) + f k
       later k le = let other : eqb p.month k ≡ false = ne_eqb p.month k (λ e. omega (arith, le, e)) in omega (arith, ap (λ t. cond t x 0) other)
 
   -- so the lines tell what was taken

@@ -2,9 +2,9 @@
 use Rattle.std.proofs.Common.{◌≡◌, ◌≢◌, ℕ, zero, suc, ◌+◌, ◌-◌, ◌*◌, ◌/◌, ◌<◌, ◌≤◌, min, true, false, cond, Some, None, ◌⊎◌, List, [], ◌∷◌, ◌++◌, length, sym, refl, ap, ◌∙◌, subst, inl, inr, arith, length-append}
 use Rattle.std.proofs.lemmas.List.{append-nil}
 use Rattle.hours.specs.declared.sums.MonthSums.{MonthSums}
-use Rattle.portions.specs.Sums.{sum}
+use Rattle.portions.specs.Sums.{total, sum}
 use Rattle.histories.specs.Histories.{Always}
-use Rattle.histories.proofs.Runs.{Leads, holds}
+use Rattle.histories.proofs.Runs.{brought_there, Leads, holds}
 use Rattle.ledger.specs.Kinds.{LawfulKind}
 use Rattle.ledger.specs.Rules.{Rule, LawfulRule}
 use Rattle.ledger.specs.Ledger as ledger
@@ -27,29 +27,31 @@ use Rattle.hours.specs.Zones.{zone_number}
 use Rattle.settlement.specs.Kinds.{energy}
 use Rattle.settlement.specs.Table.{ends, period_of}
 use Rattle.settlement.specs.Bounds.{months_before, most_pending}
-use Rattle.settlement.specs.Accounts.{Draw, refusal, machine}
+use Rattle.settlement.specs.Accounts.{Covering, refusal, machine}
 use Rattle.settlement.specs.Accounts.Call.{open_for, enter, settle, turn}
 use Rattle.settlement.specs.History.{History, Had, unsettled, reached, month_state, entered, settled, turned}
 use Rattle.settlement.specs.Inside.{at, draws_on, store_calls}
-use Rattle.settlement.specs.Settled.{covered_in, used_from, Emptied, Covered, Earned, InTurn, Lawful}
-use Rattle.settlement.specs.Took.{store_at, takes_from, took, lines_for}
+use Rattle.settlement.specs.Coverings.{counted_for, covered_in, used_from, Emptied, Covered, Earned, InTurn, Lawful}
+use Rattle.settlement.specs.Told.{takes_from, took, lines_for}
 use Rattle.settlement.specs.Lines.{lines_of}
 use Rattle.settlement.specs.declared.answers.Line.{Line}
 use Rattle.settlement.specs.Refusals.{stands}
-use Rattle.settlement.specs.Promises.{KeepsPromise}
-use Rattle.settlement.specs.Metering.{MeterAccount, MeterOpening, Course, metering, opening, coefficient_for, or_monthly, split_by_zone, wanted, covered, taken, cover, covers, draw_at, draws, own_stores, other_stores, outset, settled_course, entering_meter, settling_meter, turning_meter}
+use Rattle.settlement.specs.Promises.{StoreKeeps, KeepsPromise}
+use Rattle.settlement.specs.Metering.{MeterAccount, MeterOpening, Course, metering, opening, coefficient_for, or_monthly, split_by_zone, wanted, covered, taken, cover, covers, covering_at, coverings, own_stores, other_stores, outset, settled_course, entering_meter, settling_meter, turning_meter}
 use Rattle.settlement.proofs.ByZone.{of_all, put_holds, put_either, of_each, of_each_two}
 use Rattle.settlement.proofs.Cover.{coefficient_low, coefficient_high, wanted_serves, wanted_small, wanted_least, wanted_none, draw_sum, draw_left, Served, cover_rests, cover_serves, cover_keeps, In, through, every_pair, Ready, AllReady, all_ready, covers_length}
 use Rattle.settlement.proofs.Decided.{decided}
 use Rattle.settlement.specs.Decided.{Serves, SettlementsDecided}
-use Rattle.settlement.proofs.Inside.{Drawn, brought_there, at_there, all_settled, turns_told}
+use Rattle.settlement.proofs.Inside.{at_there}
+use Rattle.settlement.proofs.Settled.{Shown, all_settled}
+use Rattle.settlement.proofs.Turned.{turns_told}
 use Rattle.settlement.proofs.Lines.{few_lines_of, Less, less_none, less_same, less_taking, lines_less, lines_sum}
 use Rattle.settlement.proofs.Tables.{opens_in, enter_waits, settle_entered, turn_early, turn_from, before_few, before_more}
 use Rattle.settlement.proofs.Rightly.{standing_is, all_rightly}
 use Rattle.settlement.proofs.Openings.{opened_so, meter_opened, meter_refused}
 use Rattle.settlement.proofs.Sums.{import_of, export_of, import_small, export_small}
 use Rattle.settlement.proofs.Trace.{had_enter, had_draw, had_turn, turned_free}
-use Rattle.settlement.proofs.Keeps.{store_keeps}
+use Rattle.settlement.proofs.Keeps.{store_keeps, account_best}
 
 lawful : LawfulKind energy
 lawful = record { life_from = omega arith; life_to = omega arith; refund_within = λ p. omega arith }
@@ -60,49 +62,55 @@ EnergyLedger = Ledger (Unit {0})
 abbrev Calls : Type 0
 Calls = History MeterOpening Settlement
 
--- a settlement on its way: opened so, it began at a and has done these passes, by these draws; each store still has its calls, and its month
-pub record Steady (o : MeterOpening) (m : ℕ) (calls : Zone → store.History (Unit {0})) (rule : Rule) (a : MeterAccount) (done : List (Zone × Zone)) (course : Course) (ds : List (Draw Zone)) : Type 0 where
-  pub had : (z : Zone) → store.Had energy o.month (draws_on metering z rule ds ++ calls z) (of z course.stores)
+-- a settlement on its way: opened so, it began at a and has done these passes, by these coverings; each store has had their draws, and still has its month
+pub record Steady (o : MeterOpening) (m : ℕ) (h : Calls) (rule : Rule) (a : MeterAccount) (done : List (Zone × Zone)) (course : Course) (ds : List (Covering Zone)) : Type 0 where
+  pub had : (z : Zone) → store.Had energy o.month (draws_on metering z rule ds ++ store_calls metering o z h) (of z course.stores)
   pub months : (z : Zone) → (of z course.stores).month ≡ m
   pub few : (z : Zone) → of z course.rests ≤ 447000000
   pub rests_are : (z : Zone) → of z course.rests + covered_in metering z ds ≡ of z a.pending
   pub lefts_are : (z : Zone) → left_in (of z course.stores).portions + used_from metering z ds ≡ left_in (of z a.stores).portions
   pub risen : (z : Zone) → (of z course.stores).used ≡ (of z a.stores).used + used_from metering z ds
-  pub less : (z : Zone) → Less (took metering o rule z (calls z) ds) (of z a.stores).portions (of z course.stores).portions
+  pub less : (z : Zone) → Less (took metering o h rule z ds) (of z a.stores).portions (of z course.stores).portions
   pub served : (z from : Zone) → In z from done → Served z from course
   pub lawful : Always (Lawful metering o a) ds
 
-module _ (o : MeterOpening) (m : ℕ) (calls : Zone → store.History (Unit {0})) (rule : Rule) (law : LawfulRule rule) (a : MeterAccount) (c : ℕ) (low : 7 ≤ c) (high : c ≤ 8) (is : c ≡ coefficient_for o.power) where
-  abbrev On : List (Zone × Zone) → Course → List (Draw Zone) → Type 0
-  On done course ds = Steady o m calls rule a done course ds
+within_covered : (rest v x : ℕ) → v ≤ rest → 10 * v ≤ x → v ≤ min rest (x / 10)
+within_covered rest v x few paid = omega (arith, few, paid)
 
-  few_at : (done : List (Zone × Zone)) (course : Course) (ds : List (Draw Zone)) → On done course ds → (z : Zone) → Few (of z course.stores)
-  few_at done course ds st z = few_lefts energy lawful o.month (draws_on metering z rule ds ++ calls z) (of z course.stores) (st.had z)
+module _ (o : MeterOpening) (m : ℕ) (h : Calls) (rule : Rule) (law : LawfulRule rule) (a : MeterAccount) (c : ℕ) (low : 7 ≤ c) (high : c ≤ 8) (is : c ≡ coefficient_for o.power) where
+  abbrev On : List (Zone × Zone) → Course → List (Covering Zone) → Type 0
+  On done course ds = Steady o m h rule a done course ds
 
-  earned : (done : List (Zone × Zone)) (course : Course) (ds : List (Draw Zone)) → On done course ds → (zone from : Zone) → Earned metering o a ds (draw_at rule c zone from course)
+  few_at : (done : List (Zone × Zone)) (course : Course) (ds : List (Covering Zone)) → On done course ds → (z : Zone) → Few (of z course.stores)
+  few_at done course ds st z = few_lefts energy lawful o.month (draws_on metering z rule ds ++ store_calls metering o z h) (of z course.stores) (st.had z)
+
+  earned : (done : List (Zone × Zone)) (course : Course) (ds : List (Covering Zone)) → On done course ds → (zone from : Zone) → Earned metering o a ds (covering_at rule c zone from course)
   earned done course ds st zone from =
       let rest = of zone course.rests in
+      let used = sum (taken rule c zone from course) in
       record {
         rest_is = st.rests_are zone;
         enough = subst (λ t. 10 * rest ≤ wanted c rest * t) is (wanted_serves c rest (omega arith));
         least = λ w le. wanted_least c rest w (omega arith) (subst (λ t. 10 * rest ≤ w * t) (sym is) le);
         used_is = omega (arith, draw_sum rule law (wanted c rest) (of from course.stores) (few_at done course ds st from), st.lefts_are from);
-        covers_is = ap (λ t. min rest (sum (taken rule c zone from course) * t / 10)) is;
+        within_rest = omega arith;
+        paid_for = subst (λ t. 10 * covered c rest used ≤ used * t) is (omega arith);
+        largest = λ v few paid. within_covered rest v (used * c) few (subst (λ t. 10 * v ≤ used * t) (sym is) paid);
       }
 
-  in_turn : (done : List (Zone × Zone)) (course : Course) (ds : List (Draw Zone)) → On done course ds → (zone from : Zone) → Ready done zone from → 0 < sum (taken rule c zone from course) → InTurn metering a ds (draw_at rule c zone from course)
+  in_turn : (done : List (Zone × Zone)) (course : Course) (ds : List (Covering Zone)) → On done course ds → (zone from : Zone) → Ready done zone from → 0 < sum (taken rule c zone from course) → InTurn metering a ds (covering_at rule c zone from course)
   in_turn done course ds st zone from ready some =
       let all = draw_sum rule law (wanted c (of zone course.rests)) (of from course.stores) (few_at done course ds st from) in
       let needs : 0 < of zone course.rests = wanted_none c (of zone course.rests) (omega arith) (omega (arith, all)) in
       let emptied : (k : Zone) → In zone k done → Emptied metering a ds k = λ k before. omega (arith, st.served zone k before needs, st.lefts_are k) in
       let met : (k : Zone) → In k from done → Covered metering a ds k = λ k before. covered_by (of k course.rests) (left_in (of from course.stores).portions) (st.served k from before) (omega (arith, all)) _ _ (st.rests_are k) in
-      record { own_first = emptied zone ready.own; owner_first = met from ready.owner; lower_stores_first = λ k ne lt. emptied k (ready.stores k ne lt); lower_zones_first = λ k lt. met k (ready.zones k lt) }
+      record { own_store_first = emptied zone ready.own; own_zone_first = met from ready.owner; lower_stores_first = λ k ne lt. emptied k (ready.stores k ne lt); lower_zones_first = λ k lt. met k (ready.zones k lt) }
     where
       covered_by : (rest left : ℕ) → (0 < rest → left ≡ 0) → 0 < left → (x y : ℕ) → rest + x ≡ y → x ≡ y
       covered_by zero left f pos x y e = omega (arith, e)
       covered_by (suc rest) left f pos x y e = absurd (omega (arith, f (omega arith)))
 
-  steady_cover : (done : List (Zone × Zone)) (course : Course) (ds : List (Draw Zone)) (zone from : Zone) → (zone_number zone ≢ zone_number from → Ready done zone from) → On done course ds → On ((zone, from) ∷ done) (cover rule c zone from course) (draw_at rule c zone from course ∷ ds)
+  steady_cover : (done : List (Zone × Zone)) (course : Course) (ds : List (Covering Zone)) (zone from : Zone) → (zone_number zone ≢ zone_number from → Ready done zone from) → On done course ds → On ((zone, from) ∷ done) (cover rule c zone from course) (covering_at rule c zone from course ∷ ds)
   steady_cover done course ds zone from ready st =
       let rest = of zone course.rests in
       let stock = of from course.stores in
@@ -110,38 +118,38 @@ module _ (o : MeterOpening) (m : ℕ) (calls : Zone → store.History (Unit {0})
       let drawn = drawing takes stock in
       let few_here = few_at done course ds st from in
       let cut_by = draw_left rule law (wanted c rest) stock few_here in
-      let now : Zone → store.History (Unit {0}) = λ z. draws_on metering z rule ds ++ calls z in
+      let now : Zone → store.History (Unit {0}) = λ z. draws_on metering z rule ds ++ store_calls metering o z h in
       let there = brought_there (store_steps.machine energy) o.month (now from) stock (st.had from) in
       let rising : (z : Zone) → RisingFrom 0 (of z course.stores).portions = λ z. (stores.sound energy o.month (now z) (of z course.stores) (st.had z)).rising in
       let before = (of from a.stores).portions in
-      let so_far : Zone → ℕ → ℕ = λ z k. took metering o rule z (calls z) ds k in
-      let less_here : Less (λ k. so_far from k + taken_from k takes stock.portions) before drawn.portions = less_taking (so_far from) 0 takes before stock.portions (rising from) (within law stock.month (lefts stock) (wanted c rest) few_here) (st.less from) in
+      let so_far : Zone → ℕ → ℕ = λ z k. took metering o h rule z ds k in
+      let less_here : Less (λ k. taken_from k takes stock.portions + so_far from k) before drawn.portions = less_taking (so_far from) 0 takes before stock.portions (rising from) (within law stock.month (lefts stock) (wanted c rest) few_here) (st.less from) in
       record {
-        had = put_either (λ b z s. store.Had energy o.month (cond b (store.drew (record { rule = rule; wanted = wanted c rest }) (sum takes) ∷ draws_on metering z rule ds) (draws_on metering z rule ds) ++ calls z) s) from drawn course.stores
+        had = put_either (λ b z s. store.Had energy o.month (cond b (store.drew (record { rule = rule; wanted = wanted c rest }) (sum takes) ∷ draws_on metering z rule ds) (draws_on metering z rule ds) ++ store_calls metering o z h) s) from drawn course.stores
             (had_draw energy o.month (now from) stock (st.had from) rule law (wanted c rest) (wanted_small c rest low high (st.few zone))) st.had;
         months = put_holds (λ z s. s.month ≡ m) from drawn course.stores (st.months from) st.months;
         few = λ z. omega (arith, cover_rests rule law c (omega arith) zone from course z, st.few z);
-        rests_are = put_either (λ b z r. r + (covered_in metering z ds + cond b (covered c rest (sum takes)) 0) ≡ of z a.pending) zone (rest - covered c rest (sum takes)) course.rests
+        rests_are = put_either (λ b z r. r + (cond b (covered c rest (sum takes)) 0 + covered_in metering z ds) ≡ of z a.pending) zone (rest - covered c rest (sum takes)) course.rests
             (omega (arith, st.rests_are zone)) (λ z. omega (arith, st.rests_are z));
-        lefts_are = put_either (λ b z s. left_in s.portions + (used_from metering z ds + cond b (sum takes) 0) ≡ left_in (of z a.stores).portions) from drawn course.stores
+        lefts_are = put_either (λ b z s. left_in s.portions + (cond b (sum takes) 0 + used_from metering z ds) ≡ left_in (of z a.stores).portions) from drawn course.stores
             (omega (arith, st.lefts_are from, cut_by)) (λ z. omega (arith, st.lefts_are z));
-        risen = put_either (λ b z s. s.used ≡ (of z a.stores).used + (used_from metering z ds + cond b (sum takes) 0)) from drawn course.stores
+        risen = put_either (λ b z s. s.used ≡ (of z a.stores).used + (cond b (sum takes) 0 + used_from metering z ds)) from drawn course.stores
             (omega (arith, st.risen from)) (λ z. omega (arith, st.risen z));
-        less = put_either (λ b z s. Less (λ k. so_far z k + cond b (takes_from metering rule (wanted c rest) (store_at metering o (now z)) k) 0) (of z a.stores).portions s.portions) from drawn course.stores
-            (subst (λ (s : EnergyLedger). Less (λ k. so_far from k + takes_from metering rule (wanted c rest) s k) before drawn.portions) (sym there) less_here)
-            (λ z. less_same (so_far z) (λ k. so_far z k + 0) 0 (λ k le. omega arith) (of z a.stores).portions (of z course.stores).portions (rising z) (st.less z));
+        less = put_either (λ b z s. Less (λ k. cond b (takes_from metering rule (wanted c rest) (store.at energy o.month (now z)) k) 0 + so_far z k) (of z a.stores).portions s.portions) from drawn course.stores
+            (subst (λ (s : EnergyLedger). Less (λ k. takes_from metering rule (wanted c rest) s k + so_far from k) before drawn.portions) (sym there) less_here)
+            (λ z. less_same (so_far z) (λ k. 0 + so_far z k) 0 (λ k le. omega arith) (of z a.stores).portions (of z course.stores).portions (rising z) (st.less z));
         served = λ z k. served z k;
-        lawful = ((earned done course ds st zone from, λ ne some. in_turn done course ds st zone from (ready ne) some), st.lawful);
+        lawful = (record { earned = earned done course ds st zone from; in_turn = λ ne some. in_turn done course ds st zone from (ready ne) some }, st.lawful);
       }
     where
       served : (z k : Zone) → In z k ((zone, from) ∷ done) → Served z k (cover rule c zone from course)
       served z k (inl e) = subst (λ x. Served z x (cover rule c zone from course)) e.1 (subst (λ x. Served x from (cover rule c zone from course)) e.0 (cover_serves rule law c (omega arith) zone from course (few_at done course ds st from)))
       served z k (inr more) = cover_keeps rule law c (omega arith) zone from course (few_at done course ds st from) z k (st.served z k more)
 
-  steady_covers : (pairs done : List (Zone × Zone)) (course : Course) (ds : List (Draw Zone)) → AllReady done pairs → On done course ds → On (through done pairs) (covers rule c pairs course) (draws rule c pairs course ds)
+  steady_covers : (pairs done : List (Zone × Zone)) (course : Course) (ds : List (Covering Zone)) → AllReady done pairs → On done course ds → On (through done pairs) (covers rule c pairs course) (coverings rule c pairs course ds)
   steady_covers [] done course ds ready st = st
   steady_covers (pair ∷ pairs) done course ds ready st =
-      steady_covers pairs (pair ∷ done) (cover rule c pair.0 pair.1 course) (draw_at rule c pair.0 pair.1 course ∷ ds) ready.1 (steady_cover done course ds pair.0 pair.1 ready.0 st)
+      steady_covers pairs (pair ∷ done) (cover rule c pair.0 pair.1 course) (covering_at rule c pair.0 pair.1 course ∷ ds) ready.1 (steady_cover done course ds pair.0 pair.1 ready.0 st)
 
 module _ (o : MeterOpening) where
   abbrev month : MeterAccount → ℕ
@@ -206,12 +214,11 @@ module _ (o : MeterOpening) where
     module _ (rule : Rule) (law : LawfulRule rule) where
       -- how a settlement ends
       abbrev Ends : Type 0
-      Ends = Steady o (month a) (λ z. store_calls metering o z h) rule a (through [] (own_stores ++ other_stores)) (settled_course rule a) (metering.draws rule a)
+      Ends = Steady o (month a) h rule a (through [] (own_stores ++ other_stores)) (settled_course rule a) (metering.coverings rule a)
 
       pub ends_so : a.state ≡ Entered → Ends
       ends_so is =
-          let calls : Zone → store.History (Unit {0}) = λ z. store_calls metering o z h in
-          let begin : Steady o (month a) calls rule a [] (outset a) [] = record {
+          let begin : Steady o (month a) h rule a [] (outset a) [] = record {
             had = ih.had;
             months = ih.months;
             few = few_in_all is;
@@ -224,7 +231,7 @@ module _ (o : MeterOpening) where
           } in
           let low : 7 ≤ a.coefficient = omega (arith, ih.coefficient_is, coefficient_low o.power) in
           let high : a.coefficient ≤ 8 = omega (arith, ih.coefficient_is, coefficient_high o.power) in
-          steady_covers o (month a) calls rule law a a.coefficient low high ih.coefficient_is (own_stores ++ other_stores) [] (outset a) [] all_ready begin
+          steady_covers o (month a) h rule law a a.coefficient low high ih.coefficient_is (own_stores ++ other_stores) [] (outset a) [] all_ready begin
 
       sound_settle : (lines : ℕ) (answer : Settlement) → a.state ≡ Entered → Sound (settled rule lines answer ∷ h) (settling_meter rule a)
       sound_settle lines answer is =
@@ -239,7 +246,7 @@ module _ (o : MeterOpening) where
             pending_is = λ z. of_all z 0;
             few = λ z. omega (arith, of_all {X = ℕ} z 0);
             free = λ w. let z : ◌≡◌ {A = ℕ} 0 1 = cc in absurd (omega arith);
-            had = λ z. subst (λ x. store.Had energy o.month (draws_on metering z rule (metering.draws rule x) ++ store_calls metering o z h) (of z (settled_course rule a).stores)) (sym here) (st.had z);
+            had = λ z. subst (λ x. store.Had energy o.month (draws_on metering z rule (metering.coverings rule x) ++ store_calls metering o z h) (of z (settled_course rule a).stores)) (sym here) (st.had z);
           }
 
     pending_turned : (z : Zone) → ((a.state ≡ Entered) × (ends a.period (month a) ≡ false)) ⊎ (a.state ≡ Settled) → of z a.pending ≤ 74500000 * months_before a.period (month a + 1)
@@ -286,31 +293,49 @@ cut p rest = p - rest
 ap_three : {a b c x y z : List Line} → a ≡ x → b ≡ y → c ≡ z → a ++ (b ++ c) ≡ x ++ (y ++ (z ++ []))
 ap_three {z} e f g = let h = append-nil z in cc
 
-drawn : (o : MeterOpening) (h : Calls) (a : MeterAccount) → Had metering o h a → (rule : Rule) → LawfulRule rule → (lines : ℕ) → refusal metering (settle rule lines) a ≡ None → Drawn metering o h a rule
-drawn o h a had rule law lines none =
+-- a figure counted for each zone is counted once
+counted_once : (zone : Zone) (n : ℕ) → counted_for metering First zone n + (counted_for metering Second zone n + counted_for metering Third zone n) ≡ n
+counted_once First n = omega arith
+counted_once Second n = omega arith
+counted_once Third n = omega arith
+
+used_in_all : (zone_of : Covering Zone → Zone) (ds : List (Covering Zone)) → total (λ z. total (λ d. counted_for metering z (zone_of d) d.used) ds) metering.zones ≡ total (λ d. d.used) ds
+used_in_all zone_of [] = refl
+used_in_all zone_of (d ∷ ds) = omega (arith, counted_once (zone_of d) d.used, used_in_all zone_of ds)
+
+shown : (o : MeterOpening) (h : Calls) (a : MeterAccount) → Had metering o h a → (rule : Rule) → LawfulRule rule → (lines : ℕ) → refusal metering (settle rule lines) a ≡ None → Shown metering o h a rule
+shown o h a had rule law lines none =
     let st = end_of o h a had rule law lines none in
     let end = settled_course rule a in
+    let ds = metering.coverings rule a in
     let f : Zone → List Line = lines_for metering o h a rule in
-    let lines : (z : Zone) → lines_of (Some z) (lefts (of z a.stores)) (of z end.stores).portions ≡ f z = λ z. lines_less (Some z) (took metering o rule z (store_calls metering o z h) (metering.draws rule a)) (of z a.stores).portions (of z end.stores).portions (st.less z) in
+    let lines : (z : Zone) → lines_of (Some z) (lefts (of z a.stores)) (of z end.stores).portions ≡ f z = λ z. lines_less (Some z) (took metering o h rule z ds) (of z a.stores).portions (of z end.stores).portions (st.less z) in
     record {
       lawful = st.lawful;
       covered_is = λ z. omega (arith, of_each_two cut z a.pending end.rests, st.rests_are z);
       due_is = λ z. omega (arith, of_each_two cut z a.pending end.rests, st.rests_are z);
       due_only_when_empty = λ z short from. st.served z from (every_pair z from) short;
       risen = st.risen;
+      for_zones = used_in_all (λ d. d.zone) ds ∙ sym (used_in_all (λ d. d.from) ds);
       lines = record {
         told = ap_three (lines First) (lines Second) (lines Third);
         counted = refl;
-        add_up = λ z. omega (arith, lines_sum (Some z) (took metering o rule z (store_calls metering o z h) (metering.draws rule a)) (of z a.stores).portions (of z end.stores).portions (st.less z), st.lefts_are z);
+        add_up = λ z. omega (arith, lines_sum (Some z) (took metering o h rule z ds) (of z a.stores).portions (of z end.stores).portions (st.less z), st.lefts_are z);
       };
     }
 
--- whatever draws keep the laws at the account and leave nothing due where something is left, the settlement covers what they would
-pub settlement_decided : SettlementsDecided metering
-settlement_decided o h a had rule law lines none ds serves z =
+-- whatever coverings keep the laws at the account and leave nothing due where something is left, the settlement does as they
+pub meter_decided : SettlementsDecided metering
+meter_decided o h a had rule law lines none ds serves =
     let st = end_of o h a had rule law lines none in
-    let own : Serves metering o a (metering.draws rule a) = record { lawful = st.lawful; complete = λ k less from. omega (arith, st.served k from (every_pair k from) (omega (arith, less, st.rests_are k)), st.lefts_are from) } in
-    (drawn o h a had rule law lines none).covered_is z ∙ (decided o a (metering.draws rule a) ds own serves z).0
+    let done = shown o h a had rule law lines none in
+    let own : Serves metering o a (metering.coverings rule a) = record { lawful = st.lawful; complete = λ k less from. omega (arith, st.served k from (every_pair k from) (omega (arith, less, st.rests_are k)), st.lefts_are from) } in
+    let same = decided o a (metering.coverings rule a) ds own serves in
+    record {
+      covered_is = λ z. done.covered_is z ∙ (same z).0;
+      due_is = λ z. omega (arith, done.covered_is z, done.due_is z, (same z).0);
+      risen = λ z. omega (arith, done.risen z, (same z).1);
+    }
 
 -- the account stands where its calls have brought it
 told : (o : MeterOpening) (h : Calls) (a : MeterAccount) → Had metering o h a → metering.standing a ≡ stands metering o h
@@ -322,15 +347,18 @@ told o h a had =
 pub metering_keeps : KeepsPromise metering
 metering_keeps o h a had =
     let s = sound o h a had in
+    let stores : (z : Zone) → StoreKeeps metering o h a z (store_calls metering o z h) = λ z. store_keeps metering lawful o h a z (s.had z) in
+    let turned = turns_told metering (λ a. omega arith) (λ a. omega arith) o h a had in
     record {
       had = had;
       opened_rightly = meter_opened o (opened_so metering o h a had);
       standing_told = told o h a had;
       rightly = all_rightly metering told meter_refused o h a had;
       pending_told = s.pending_is;
-      stores = λ z. store_keeps metering lawful o h a z (s.had z);
-      settled = all_settled metering drawn o h a had;
-      turns_told = turns_told metering (λ a. omega arith) (λ a. omega arith) o h a had;
+      stores = stores;
+      settled = all_settled metering shown o h a had;
+      turns_told = turned;
+      best = account_best metering o h a stores turned;
       few_lines = λ rule.
           let end = settled_course rule a in
           let few : (z : Zone) → length (of z end.stores).portions ≤ 13 = λ z. omega (arith, few_open energy o.month (store_calls metering o z h) (of z a.stores) (s.had z), covers_length rule a.coefficient (own_stores ++ other_stores) (outset a) z) in

@@ -30,8 +30,8 @@ Follows (open_for opening) = ⊥
 Follows (settle rule lines) = LawfulRule rule
 Follows _ = Unit {0}
 
--- a draw of a settlement: for a zone, from the store of a zone; what was not covered in its zone before, what it wanted, what it used and what that covered
-pub record Draw (Z : Type 0) : Type 0 where
+-- a covering of a settlement, which draws for a zone on the store of a zone: the rest that was not covered in its zone before, what it wanted, what it used and what that covers
+pub record Covering (Z : Type 0) : Type 0 where
   pub zone : Z
   pub from : Z
   pub rest : ℕ
@@ -63,9 +63,9 @@ pub record Workings (O A S Z T : Type 0) : Type 1 where
   pub stored : MonthSums → Z → ℕ
   pub terms : O → MonthSums → T
   pub demand : MonthSums → Z → ℕ
-  -- how many tenths of what is used are covered, and the draws of a settlement, the newest first
+  -- how many tenths of what is used are covered, and the coverings of a settlement, the newest first
   pub tenths : O → ℕ
-  pub draws : Rule → A → List (Draw Z)
+  pub coverings : Rule → A → List (Covering Z)
   -- what a settlement answers, of that what it covered and left due and how many lines it has, and the lines
   pub settlement : Rule → A → S
   pub covered : S → Z → ℕ

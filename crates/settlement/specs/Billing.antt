@@ -16,7 +16,7 @@ use Rattle.settlement.specs.declared.states.MonthState.{MonthState}
 use Rattle.settlement.specs.declared.states.MonthState.TheVariants.{Waiting, Entered, Settled}
 use Rattle.settlement.specs.Kinds.{deposit}
 use Rattle.settlement.specs.Lines.{lines_of}
-use Rattle.settlement.specs.Accounts.{Workings, Draw}
+use Rattle.settlement.specs.Accounts.{Workings, Covering}
 
 -- what a billing account means: the percentage that caps refunds, the bill to be settled, and the deposits
 pub record BillAccount : Type 0 where
@@ -83,9 +83,9 @@ paid rule b = takings rule b.bill b.store
 abbrev pub settling_bill : Rule → BillAccount → BillAccount
 settling_bill rule b = record { opened = true; percentage = b.percentage; state = Settled; bill = 0; store = drawing (paid rule b) b.store }
 
--- its one draw
-abbrev pub bill_draw : Rule → BillAccount → Draw (Unit {0})
-bill_draw rule b = record { zone = tt; from = tt; rest = b.bill; wanted = b.bill; used = sum (paid rule b); covers = sum (paid rule b) }
+-- its one covering
+abbrev pub bill_covering : Rule → BillAccount → Covering (Unit {0})
+bill_covering rule b = record { zone = tt; from = tt; rest = b.bill; wanted = b.bill; used = sum (paid rule b); covers = sum (paid rule b) }
 
 -- its lines
 abbrev pub bill_lines : Rule → BillAccount → List Line
@@ -119,7 +119,7 @@ billing = record {
   terms = λ o sums. month_cap o.percentage sums;
   demand = λ sums z. month_bill sums;
   tenths = λ o. 10;
-  draws = λ rule b. bill_draw rule b ∷ [];
+  coverings = λ rule b. bill_covering rule b ∷ [];
   settlement = payment;
   covered = λ p z. p.used;
   due = λ p z. p.due;

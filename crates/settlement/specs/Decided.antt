@@ -1,20 +1,27 @@
--- The laws of draws decide what a settlement covers.
-use Rattle.std.specs.Prelude.{◌≡◌, ℕ, ◌<◌, List, None}
+-- The laws of coverings decide what a settlement does.
+use Rattle.std.specs.Prelude.{◌≡◌, ℕ, ◌+◌, ◌<◌, List, None}
 use Rattle.histories.specs.Histories.{Always}
 use Rattle.ledger.specs.Rules.{Rule, LawfulRule}
-use Rattle.settlement.specs.Accounts.{Workings, Draw, refusal}
+use Rattle.settlement.specs.Accounts.{Workings, Covering, refusal}
 use Rattle.settlement.specs.Accounts.Call.{settle}
 use Rattle.settlement.specs.History.{History, Had}
-use Rattle.settlement.specs.Settled.{Lawful, Emptied, covered_in}
+use Rattle.settlement.specs.Coverings.{Lawful, Emptied, covered_in, used_from}
+use Rattle.settlement.specs.Settled.{used_before, used_after}
 
 module _ {O A S Z T : Type 0} (works : Workings O A S Z T) where
-  -- draws that keep the laws at an account, and leave nothing due where something is left
-  pub record Serves (o : O) (a : A) (ds : List (Draw Z)) : Type 0 where
-    pub lawful : Always (Lawful works o a) ds
-    pub complete : (z : Z) → covered_in works z ds < works.pending a z → (from : Z) → Emptied works a ds from
+  -- coverings that keep the laws at an account, and leave nothing due where something is left
+  pub record Serves (o : O) (a : A) (cs : List (Covering Z)) : Type 0 where
+    pub lawful : Always (Lawful works o a) cs
+    pub complete : (z : Z) → covered_in works z cs < works.pending a z → (from : Z) → Emptied works a cs from
 
-  -- whatever such draws, an accepted settlement covers what they would
+  -- a settlement by this rule at a covers in each zone, leaves due there and uses of its store what these coverings do
+  pub record DoesAs (a : A) (rule : Rule) (cs : List (Covering Z)) : Type 0 where
+    pub covered_is : (z : Z) → works.covered (works.settlement rule a) z ≡ covered_in works z cs
+    pub due_is : (z : Z) → covered_in works z cs + works.due (works.settlement rule a) z ≡ works.pending a z
+    pub risen : (z : Z) → used_after works rule a z ≡ used_before works a z + used_from works z cs
+
+  -- whatever such coverings, an accepted settlement does as they
   abbrev pub SettlementsDecided : Type 0
   SettlementsDecided =
       (o : O) (h : History O S) (a : A) → Had works o h a → (rule : Rule) → LawfulRule rule → (lines : ℕ) → refusal works (settle rule lines) a ≡ None →
-      (ds : List (Draw Z)) → Serves o a ds → (z : Z) → works.covered (works.settlement rule a) z ≡ covered_in works z ds
+      (cs : List (Covering Z)) → Serves o a cs → DoesAs a rule cs

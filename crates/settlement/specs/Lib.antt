@@ -11,10 +11,12 @@ pub mod History
 pub mod Accepted
 pub mod Refusals
 pub mod Inside
+pub mod Coverings
+pub mod Told
 pub mod Settled
 pub mod Decided
-pub mod Took
 pub mod Turned
+pub mod Best
 pub mod Promises
 pub mod Metering
 pub mod Billing

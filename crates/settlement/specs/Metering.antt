@@ -24,7 +24,7 @@ use Rattle.settlement.specs.Zones.{of, put, all, each, each_two}
 use Rattle.settlement.specs.Kinds.{energy}
 use Rattle.settlement.specs.Table.{ends, period_of}
 use Rattle.settlement.specs.Lines.{lines_of}
-use Rattle.settlement.specs.Accounts.{Workings, Draw}
+use Rattle.settlement.specs.Accounts.{Workings, Covering}
 
 -- what a metering account means: the coefficient in tenths, its period, the import pending and the store of each zone
 pub record MeterAccount : Type 0 where
@@ -126,9 +126,9 @@ abbrev pub covers : Rule → ℕ → List (Zone × Zone) → Course → Course
 covers rule c [] course = course
 covers rule c (pair ∷ pairs) course = covers rule c pairs (cover rule c pair.0 pair.1 course)
 
--- a covering as a draw
-abbrev pub draw_at : Rule → ℕ → Zone → Zone → Course → Draw Zone
-draw_at rule c zone from course = record {
+-- a covering, as it is told
+abbrev pub covering_at : Rule → ℕ → Zone → Zone → Course → Covering Zone
+covering_at rule c zone from course = record {
   zone = zone;
   from = from;
   rest = of zone course.rests;
@@ -137,10 +137,10 @@ draw_at rule c zone from course = record {
   covers = covered c (of zone course.rests) (sum (taken rule c zone from course));
 }
 
--- those of several, after others
-abbrev pub draws : Rule → ℕ → List (Zone × Zone) → Course → List (Draw Zone) → List (Draw Zone)
-draws rule c [] course before = before
-draws rule c (pair ∷ pairs) course before = draws rule c pairs (cover rule c pair.0 pair.1 course) (draw_at rule c pair.0 pair.1 course ∷ before)
+-- the coverings of several pairs, after others
+abbrev pub coverings : Rule → ℕ → List (Zone × Zone) → Course → List (Covering Zone) → List (Covering Zone)
+coverings rule c [] course before = before
+coverings rule c (pair ∷ pairs) course before = coverings rule c pairs (cover rule c pair.0 pair.1 course) (covering_at rule c pair.0 pair.1 course ∷ before)
 
 -- where a settlement begins
 abbrev pub outset : MeterAccount → Course
@@ -205,7 +205,7 @@ metering = record {
   terms = λ o sums. tt;
   demand = λ sums z. of z (split_by_zone sums.totals.import);
   tenths = λ o. coefficient_for o.power;
-  draws = λ rule a. draws rule a.coefficient (own_stores ++ other_stores) (outset a) [];
+  coverings = λ rule a. coverings rule a.coefficient (own_stores ++ other_stores) (outset a) [];
   settlement = settlement;
   covered = λ s z. of z s.covered;
   due = λ s z. of z s.due;

@@ -1,66 +1,45 @@
--- What an accepted settlement draws, what that covers, and in which order.
-use Rattle.std.specs.Prelude.{◌≡◌, ◌≢◌, ℕ, ◌+◌, ◌-◌, ◌*◌, ◌/◌, ◌<◌, ◌≤◌, min, cond, List, [], ◌∷◌, ◌==◌}
+-- What an accepted settlement is: what its coverings come to, and told in its lines.
+use Rattle.std.specs.Prelude.{◌≡◌, ℕ, ◌+◌, ◌*◌, ◌<◌, ◌≤◌}
 use Rattle.histories.specs.Histories.{Always}
+use Rattle.portions.specs.Sums.{total}
 use Rattle.ledger.specs.Rules.{Rule}
 use Rattle.ledger.specs.Ledger.{left_in}
-use Rattle.settlement.specs.Accounts.{Workings, Draw}
+use Rattle.settlement.specs.Accounts.{Workings}
+use Rattle.settlement.specs.History.{Event, History, settled}
+use Rattle.settlement.specs.Inside.{at}
+use Rattle.settlement.specs.Coverings.{used_for, used_from, covered_in, Lawful}
+use Rattle.settlement.specs.Told.{TellsLines}
 
 module _ {O A S Z T : Type 0} (works : Workings O A S Z T) where
-  -- a figure added up over the draws that have z as this zone of theirs
-  abbrev pub over : (Draw Z → Z) → (Draw Z → ℕ) → Z → List (Draw Z) → ℕ
-  over whose figure z [] = 0
-  over whose figure z (d ∷ ds) = over whose figure z ds + cond (works.place (whose d) == works.place z) (figure d) 0
+  -- what the store of z has used in all, before and after a settlement by this rule at a
+  abbrev pub used_before : A → Z → ℕ
+  used_before a z = (works.store a z).used
 
-  -- what was used for a zone and from its store, and what was covered in it
-  abbrev pub used_for : Z → List (Draw Z) → ℕ
-  used_for = over (λ d. d.zone) (λ d. d.used)
+  abbrev pub used_after : Rule → A → Z → ℕ
+  used_after rule a z = (works.store (works.settling rule a) z).used
 
-  abbrev pub used_from : Z → List (Draw Z) → ℕ
-  used_from = over (λ d. d.from) (λ d. d.used)
-
-  abbrev pub covered_in : Z → List (Draw Z) → ℕ
-  covered_in = over (λ d. d.zone) (λ d. d.covers)
-
-  -- these draws have emptied the store of a zone, and covered all that was pending in it
-  abbrev pub Emptied : A → List (Draw Z) → Z → Type 0
-  Emptied a ds z = used_from z ds ≡ left_in (works.store a z).portions
-
-  abbrev pub Covered : A → List (Draw Z) → Z → Type 0
-  Covered a ds z = covered_in z ds ≡ works.pending a z
-
-  -- a draw of a settlement at a, after these
-  pub record Earned (o : O) (a : A) (before : List (Draw Z)) (d : Draw Z) : Type 0 where
-    -- it serves what is pending in its zone and not covered by those
-    pub rest_is : d.rest + covered_in d.zone before ≡ works.pending a d.zone
-    -- it wants the least that covers the rest
-    pub enough : 10 * d.rest ≤ d.wanted * works.tenths o
-    pub least : (w : ℕ) → 10 * d.rest ≤ w * works.tenths o → d.wanted ≤ w
-    -- it uses that, or all that those have left, which covers so many tenths of itself, rounded down, but no more than the rest
-    pub used_is : d.used ≡ min d.wanted (left_in (works.store a d.from).portions - used_from d.from before)
-    pub covers_is : d.covers ≡ min d.rest (d.used * works.tenths o / 10)
-
-  -- it takes from another zone's store only in its turn
-  pub record InTurn (a : A) (before : List (Draw Z)) (d : Draw Z) : Type 0 where
-    -- its own store has been emptied, and that zone wholly covered
-    pub own_first : Emptied a before d.zone
-    pub owner_first : Covered a before d.from
-    -- as has each lower store of the others been, and each lower zone
-    pub lower_stores_first : (k : Z) → works.place k ≢ works.place d.zone → works.place k < works.place d.from → Emptied a before k
-    pub lower_zones_first : (k : Z) → works.place k < works.place d.zone → Covered a before k
-
-  -- a draw as it should be
-  abbrev pub Lawful : O → A → List (Draw Z) → Draw Z → Type 0
-  Lawful o a before d = Earned o a before d × (works.place d.zone ≢ works.place d.from → 0 < d.used → InTurn a before d)
-
-  -- a settlement by this rule that answers so, where the account was at a, is what its draws come to
-  pub record Comes (o : O) (a : A) (rule : Rule) (answer : S) : Type 0 where
-    pub lawful : Always (Lawful o a) (works.draws rule a)
-    -- what was pending is covered by its draws, or due, and something is due only if nothing is left in any store
-    pub covered_is : (z : Z) → works.covered answer z ≡ covered_in z (works.draws rule a)
+  -- a settlement by this rule that answers so, where the account was at a, is what its coverings come to
+  pub record IsWhatItsCoveringsComeTo (o : O) (a : A) (rule : Rule) (answer : S) : Type 0 where
+    pub lawful : Always (Lawful works o a) (works.coverings rule a)
+    -- what was pending is covered by them, or due
+    pub covered_is : (z : Z) → works.covered answer z ≡ covered_in works z (works.coverings rule a)
     pub due_is : (z : Z) → works.covered answer z + works.due answer z ≡ works.pending a z
+    -- and something is due only if nothing is left in any store
     pub due_only_when_empty : (z : Z) → 0 < works.due answer z → (from : Z) → left_in (works.store (works.settling rule a) from).portions ≡ 0
-    -- each store has used so much more
-    pub risen : (z : Z) → (works.store (works.settling rule a) z).used ≡ (works.store a z).used + used_from z (works.draws rule a)
-    -- so no more is covered than was paid for, and ten tenths are all of it
-    pub paid : (z : Z) → 10 * works.covered answer z ≤ used_for z (works.draws rule a) * works.tenths o
-    pub at_par : works.tenths o ≡ 10 → (z : Z) → works.covered answer z ≡ used_for z (works.draws rule a)
+    -- each store has used so much more, and all of it for the zones
+    pub risen : (z : Z) → used_after rule a z ≡ used_before a z + used_from works z (works.coverings rule a)
+    pub for_zones : total (λ z. used_for works z (works.coverings rule a)) works.zones ≡ total (λ z. used_from works z (works.coverings rule a)) works.zones
+    -- so no more is covered in a zone than was paid for
+    pub paid : (z : Z) → 10 * works.covered answer z ≤ used_for works z (works.coverings rule a) * works.tenths o
+    -- where ten tenths are covered, all that was used is, and what is covered is what the stores have used more
+    pub at_par : works.tenths o ≡ 10 → (z : Z) → works.covered answer z ≡ used_for works z (works.coverings rule a)
+    pub rise_at_par : works.tenths o ≡ 10 → total (used_before a) works.zones + total (works.covered answer) works.zones ≡ total (used_after rule a) works.zones
+
+  -- an accepted settlement after the calls h is that, and its lines tell it
+  abbrev pub SettledRightly : O → History O S → Event O S → Type 0
+  SettledRightly o h (settled rule lines answer) = IsWhatItsCoveringsComeTo o (at works o h) rule answer × TellsLines works o h (at works o h) rule answer
+  SettledRightly o h _ = Unit {0}
+
+  -- every one is
+  abbrev pub AllSettledRightly : O → History O S → Type 0
+  AllSettledRightly o h = Always (SettledRightly o) h

@@ -33,9 +33,10 @@ pub fn billing_keeps_promise()
     ensures { KeepsPromise billing }
 {}
 
-// The laws of draws decide what an accepted settlement of a metering account covers.
-pub fn metering_settlements_decided()
-    ensures { SettlementsDecided metering }
+// The laws of coverings decide what an accepted settlement covers, leaves due and uses.
+pub fn settlements_decided()
+    ensures metering { SettlementsDecided metering }
+    ensures billing { SettlementsDecided billing }
 {}
 
 // Every list of calls after an opening has a history.
