@@ -10,7 +10,6 @@ ghost use Rattle.store.specs.Reading.{kind_of, ledger_of};
 ghost use Rattle.store.specs.Slots.{Accounted};
 ghost use Rattle.store.specs.Unopened.{AsLent, StaysAsLent, OpenStaysAsLent};
 
-use crate::refusals::may_open;
 use crate::rows::Rows;
 use crate::{Store, Totals};
 use faults::StoreFault;
@@ -44,7 +43,7 @@ impl<'a, K: Kind> Store<'a, K> {
         ensures promised { OpenKeeps (kind_of K.Kind) (ledger_of K.Kind self.old) (room self.old) month result (ledger_of K.Kind self.new) }
         ensures unopened { OpenStaysAsLent self.old month result self.new }
     {
-        may_open::<K>(self.rows.slots.len(), month)?;
+        self.may_open(month)?;
         self.rows.filled = 0;
         self.opened = true;
         self.month = month;

@@ -1,7 +1,9 @@
-ghost use Rattle.std.specs.Prelude.{◌≡◌};
+ghost use Rattle.std.specs.Prelude.{◌≡◌, None, nat_lt};
+ghost use Rattle.faults.specs.declared.StoreFault.TheVariants.{TooFewSlots};
 ghost use Rattle.portions.specs.Made.{answered};
 ghost use Rattle.portions.specs.Portions.{fresh};
-ghost use Rattle.ledger.specs.Calls.{answers, open_refusal, enter_refusal, draw_refusal, turn_refusal};
+ghost use Rattle.ledger.specs.Calls.{answers, asks, open_refusal, enter_refusal, draw_refusal, turn_refusal};
+ghost use Rattle.store.specs.Held.{room};
 ghost use Rattle.store.specs.Reading.{kind_of, ledger_of};
 
 use crate::Store;
@@ -11,20 +13,28 @@ use portions::{FIRST_MONTH, Kind, LAST_MONTH};
 // The largest amount that a draw may ask for.
 const LARGEST_WANTED: u32 = 1_000_000_000;
 
-// Refuses an opening that is not to be, over so many slots.
-pub(crate) fn may_open<K: Kind>(slots: usize, month: u16) -> Result<(), StoreFault>
-    ensures { result ≡ answers (open_refusal (kind_of K.Kind) slots month) tt }
-{
-    if slots <= usize::from(K::LIFE) {
-        return Err(StoreFault::TooFewSlots);
-    }
-    if month < FIRST_MONTH || month > LAST_MONTH {
-        return Err(StoreFault::MonthOutOfRange);
-    }
-    Ok(())
-}
-
 impl<'a, K: Kind> Store<'a, K> {
+    // Refuses too few slots: a kind's life and one more are wanted.
+    pub fn enough_slots(&self) -> Result<(), StoreFault>
+        ensures { result ≡ answers (asks (nat_lt K.Kind.LIFE (room self.now)) TooFewSlots None) tt }
+    {
+        if self.room() <= usize::from(K::LIFE) {
+            return Err(StoreFault::TooFewSlots);
+        }
+        Ok(())
+    }
+
+    // Refuses an opening that is not to be.
+    pub fn may_open(&self, month: u16) -> Result<(), StoreFault>
+        ensures { result ≡ answers (open_refusal (kind_of K.Kind) (room self.now) month) tt }
+    {
+        self.enough_slots()?;
+        if month < FIRST_MONTH || month > LAST_MONTH {
+            return Err(StoreFault::MonthOutOfRange);
+        }
+        Ok(())
+    }
+
     // The portion to enter, or the refusal of the enter.
     pub(crate) fn admit(&self, amount: u32, terms: K::Terms) -> Result<K, StoreFault>
         ensures { answered K.Kind.means result ≡ answers (enter_refusal amount (ledger_of K.Kind self.now)) (fresh self.now.month amount terms) }
@@ -53,7 +63,7 @@ impl<'a, K: Kind> Store<'a, K> {
     }
 
     // Refuses a turn that is not to be.
-    pub(crate) fn may_turn(&self) -> Result<(), StoreFault>
+    pub fn may_turn(&self) -> Result<(), StoreFault>
         ensures { result ≡ answers (turn_refusal (ledger_of K.Kind self.now)) tt }
     {
         if !self.opened {
