@@ -1,5 +1,5 @@
 -- What the stores inside an account mean.
-use Rattle.std.specs.Prelude.{ℕ, min}
+use Rattle.std.specs.Prelude.{ℕ, ◌+◌, min}
 use Rattle.portions.specs.declared.Kind.{Ghosts}
 use Rattle.portions.specs.declared.terms.Termed.{Termed}
 use Rattle.ledger.specs.Ledger.{Ledger}
@@ -47,3 +47,7 @@ deposits s = ledger_of deposit_kind s
 -- the fewest slots that a store has
 abbrev pub fewest : Zones EnergyStore → ℕ
 fewest s = min (min (room s.one) (room s.two)) (room s.three)
+
+-- a figure of each of the three, summed
+abbrev pub in_three : (Ledger (Unit {0}) → ℕ) → Zones EnergyStore → ℕ
+in_three figure s = figure (energies s.one) + figure (energies s.two) + figure (energies s.three)

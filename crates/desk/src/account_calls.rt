@@ -16,7 +16,7 @@ use hours::MonthSums;
 use portions::dated::Dated;
 use portions::oldest_first::OldestFirst;
 use portions::proportional::Proportional;
-use settlement::{Line, Returned};
+use settlement::{Account, Line, Returned};
 
 // The two sorts of account.
 #[derive(Clone, Copy, PartialEq, Eq, Debug)]

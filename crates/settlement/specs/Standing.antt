@@ -4,6 +4,8 @@ use Rattle.std.specs.Option.{option_or}
 use Rattle.std.specs.Result.{result_err}
 use Rattle.faults.specs.declared.AccountFault.{AccountFault}
 use Rattle.faults.specs.declared.AccountFault.TheVariants.{InStore, NotOpen, OtherMonth, TooFewLines}
+use Rattle.faults.specs.declared.StoreFault.{StoreFault}
+use Rattle.faults.specs.declared.StoreFault.TheVariants as store
 use Rattle.faults.specs.declared.StoreFault.TheVariants.{LastMonth}
 use Rattle.ledger.specs.Calls.{asks}
 use Rattle.settlement.specs.declared.standing.Standing.{Standing}
@@ -22,6 +24,10 @@ enter_refusal s month = asks s.opened NotOpen (asks (month == s.month) OtherMont
 -- a settlement asks for an open account, what the table asks, and room for its lines
 abbrev pub settle_refusal : Standing → ℕ → ℕ → Option AccountFault
 settle_refusal s fewest lines = asks s.opened NotOpen (option_or (by_table s Settle) (asks (nat_le fewest lines) TooFewLines None))
+
+-- each store of an account asks of a turn that it is open, and for a month before 1,199
+abbrev pub stores_turn_refusal : Standing → Option StoreFault
+stores_turn_refusal s = asks s.opened store.NotOpen (asks (nat_lt s.month 1199) LastMonth None)
 
 -- a turn asks for an open account, a month before 1,199, and what the table asks
 abbrev pub turn_refusal : Standing → Option AccountFault

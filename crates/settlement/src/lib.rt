@@ -19,7 +19,7 @@ mod zones;
 
 pub use answers::{Line, Payment, Returned, Settlement};
 pub use hours::Zone;
-pub use standing::Standing;
+pub use standing::{Account, Standing};
 pub use states::{Call, MonthState, Period};
 pub use zones::Zones;
 

@@ -1,23 +1,13 @@
-// What the refusals of an account look at, stated once for both sorts.
-ghost use Rattle.std.specs.Prelude.{◌≡◌, if◌then◌else◌, Ok, Err, nat_lt};
-ghost use Rattle.faults.specs.declared.StoreFault.TheVariants.{LastMonth};
+// Where an account stands, and what it refuses there, stated once for both sorts.
+ghost use Rattle.std.specs.Prelude.{◌≡◌};
 ghost use Rattle.settlement.specs.declared.states.MonthState.TheVariants as state;
+ghost use Rattle.settlement.specs.declared.standing.Standing.{Standing};
 ghost use Rattle.ledger.specs.Calls.{answers};
-ghost use Rattle.settlement.specs.Standing.{enter_refusal, settle_refusal, turn_refusal};
+ghost use Rattle.settlement.specs.Table.{table};
+ghost use Rattle.settlement.specs.Standing.{enter_refusal, settle_refusal, stores_turn_refusal, turn_refusal};
 
 use crate::states::{Call, MonthState};
 use faults::{AccountFault, StoreFault};
-use portions::LAST_MONTH;
-
-// Refuses, as a store does, a turn in the last month.
-fn not_the_last(month: u16) -> Result<(), StoreFault>
-    ensures { result ≡ (if nat_lt month 1199 then Ok tt else Err LastMonth) }
-{
-    if month >= LAST_MONTH {
-        return Err(StoreFault::LastMonth);
-    }
-    Ok(())
-}
 
 // Where an account stands: whether it is open, its month and that month's state, and whether a period ends with it.
 // `opened` stays beside the others, since an account has a month and a state before an opening too.
@@ -29,28 +19,64 @@ pub struct Standing {
     pub ends: bool,
 }
 
-impl Standing {
-    // Refuses an enter of a month's sums that is not to be; otherwise the state after it.
-    pub fn may_enter(self, month: u16) -> Result<MonthState, AccountFault>
-        ensures { result ≡ answers (enter_refusal self month) state.Entered }
+// An account of either sort, with the state of its month.
+pub trait Account {
+    ghost stands: { Self → Standing };
+
+    // Where the account stands.
+    fn standing(&self) -> Standing
+        ensures { result ≡ stands self.now };
+
+    // Refuses a turn that a store of the account refuses.
+    fn stores_may_turn(&self) -> Result<(), StoreFault>
+        ensures { result ≡ answers (stores_turn_refusal (stands self.now)) tt };
+
+    // The state after a call in the month's state, or the refusal of it.
+    final fn after(&self, call: Call) -> Result<MonthState, AccountFault>
+        ensures { result ≡ table (stands self.now).state call (stands self.now).ends }
     {
-        if !self.opened {
+        let Standing { state, ends, .. } = self.standing();
+        match (state, call, ends) {
+            (MonthState::Waiting, Call::Enter, _) => Ok(MonthState::Entered),
+            (MonthState::Waiting, Call::Settle, _) => Err(AccountFault::NothingEntered),
+            (MonthState::Waiting, Call::Turn, _) => Err(AccountFault::NothingEntered),
+            (MonthState::Entered, Call::Enter, _) => Err(AccountFault::AlreadyEntered),
+            (MonthState::Entered, Call::Settle, true) => Ok(MonthState::Settled),
+            (MonthState::Entered, Call::Settle, false) => Err(AccountFault::PeriodGoesOn),
+            (MonthState::Entered, Call::Turn, true) => Err(AccountFault::NotSettled),
+            (MonthState::Entered, Call::Turn, false) => Ok(MonthState::Waiting),
+            (MonthState::Settled, Call::Enter, _) => Err(AccountFault::AlreadyEntered),
+            (MonthState::Settled, Call::Settle, _) => Err(AccountFault::AlreadySettled),
+            (MonthState::Settled, Call::Turn, _) => Ok(MonthState::Waiting),
+        }
+    }
+
+    // Refuses an enter of a month's sums that is not to be; otherwise the state after it.
+    final fn may_enter(&self, month: u16) -> Result<MonthState, AccountFault>
+        ensures { result ≡ answers (enter_refusal (stands self.now) month) state.Entered }
+    {
+        let Standing {
+            opened,
+            month: own,
+            ..
+        } = self.standing();
+        if !opened {
             return Err(AccountFault::NotOpen);
         }
-        if month != self.month {
+        if month != own {
             return Err(AccountFault::OtherMonth);
         }
-        self.state.after(Call::Enter, self.ends)
+        self.after(Call::Enter)
     }
 
     // Refuses a settlement that is not to be; otherwise the state after it.
-    pub fn may_settle(self, fewest: usize, lines: usize) -> Result<MonthState, AccountFault>
-        ensures { result ≡ answers (settle_refusal self fewest lines) state.Settled }
+    final fn may_settle(&self, fewest: usize, lines: usize) -> Result<MonthState, AccountFault>
+        ensures { result ≡ answers (settle_refusal (stands self.now) fewest lines) state.Settled }
     {
-        if !self.opened {
+        if !self.standing().opened {
             return Err(AccountFault::NotOpen);
         }
-        let next = self.state.after(Call::Settle, self.ends)?;
+        let next = self.after(Call::Settle)?;
         if lines < fewest {
             return Err(AccountFault::TooFewLines);
         }
@@ -58,13 +84,13 @@ impl Standing {
     }
 
     // Refuses a turn that is not to be; otherwise the state after it.
-    pub fn may_turn(self) -> Result<MonthState, AccountFault>
-        ensures { result ≡ answers (turn_refusal self) state.Waiting }
+    final fn may_turn(&self) -> Result<MonthState, AccountFault>
+        ensures { result ≡ answers (turn_refusal (stands self.now)) state.Waiting }
     {
-        if !self.opened {
+        if !self.standing().opened {
             return Err(AccountFault::NotOpen);
         }
-        not_the_last(self.month)?;
-        self.state.after(Call::Turn, self.ends)
+        self.stores_may_turn()?;
+        self.after(Call::Turn)
     }
 }

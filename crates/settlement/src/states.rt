@@ -1,6 +1,6 @@
 // The course of an account's month, and its period.
 ghost use Rattle.std.specs.Prelude.{◌≡◌};
-ghost use Rattle.settlement.specs.Table.{ends, known_period, table};
+ghost use Rattle.settlement.specs.Table.{ends, known_period};
 
 use faults::AccountFault;
 
@@ -18,27 +18,6 @@ pub enum Call {
     Enter,
     Settle,
     Turn,
-}
-
-impl MonthState {
-    // The state after a call, or the refusal of it, in a month with which a period ends or not.
-    pub fn after(self, call: Call, ends: bool) -> Result<MonthState, AccountFault>
-        ensures { result ≡ table self call ends }
-    {
-        match (self, call, ends) {
-            (MonthState::Waiting, Call::Enter, _) => Ok(MonthState::Entered),
-            (MonthState::Waiting, Call::Settle, _) => Err(AccountFault::NothingEntered),
-            (MonthState::Waiting, Call::Turn, _) => Err(AccountFault::NothingEntered),
-            (MonthState::Entered, Call::Enter, _) => Err(AccountFault::AlreadyEntered),
-            (MonthState::Entered, Call::Settle, true) => Ok(MonthState::Settled),
-            (MonthState::Entered, Call::Settle, false) => Err(AccountFault::PeriodGoesOn),
-            (MonthState::Entered, Call::Turn, true) => Err(AccountFault::NotSettled),
-            (MonthState::Entered, Call::Turn, false) => Ok(MonthState::Waiting),
-            (MonthState::Settled, Call::Enter, _) => Err(AccountFault::AlreadyEntered),
-            (MonthState::Settled, Call::Settle, _) => Err(AccountFault::AlreadySettled),
-            (MonthState::Settled, Call::Turn, _) => Ok(MonthState::Waiting),
-        }
-    }
 }
 
 // How often a metering account is settled.

@@ -16,14 +16,14 @@ ghost use Rattle.accounts.specs.Slots.{SameSlots};
 use crate::billing::Billing;
 use crate::billing::amounts::{bill_of, cap_of, deposit_of, paid};
 use crate::inside::{
-    MOST_PORTIONS, draw_store, enough_slots, enter_store, month_in_range, open_store, turn_store,
+    MOST_PORTIONS, draw_store, enter_store, month_in_range, open_store, turn_store,
 };
 use crate::lines::write_lines;
 use faults::AccountFault;
 use hours::MonthSums;
 use portions::rules::Rule;
 use portions::{Kind, Slot};
-use settlement::{Line, MonthState, Payment, Returned};
+use settlement::{Account, Line, MonthState, Payment, Returned};
 use store::Store;
 
 impl<'a> Billing<'a> {
@@ -45,7 +45,7 @@ impl<'a> Billing<'a> {
     fn may_open(&self, month: u16, percentage: u8) -> Result<(), AccountFault>
         ensures { result ≡ answers (open_refusal (bill_opening (room self.now.store) month percentage)) tt }
     {
-        enough_slots(self.store.room())?;
+        self.store.enough_slots()?;
         month_in_range(month)?;
         if percentage > 100 {
             return Err(AccountFault::PercentageTooHigh);
@@ -61,7 +61,7 @@ impl<'a> Billing<'a> {
         ensures promised { OpenKeeps billing (billed self.old) (bill_opening (room self.old.store) month percentage) result (billed self.new) }
     {
         self.may_open(month, percentage)?;
-        open_store(&mut self.store, month);
+        open_store(&mut self.store, month)?;
         self.bill = 0;
         self.percentage = percentage;
         self.state = MonthState::Waiting;
@@ -76,19 +76,30 @@ impl<'a> Billing<'a> {
         ensures promised { Keeps billing (billed self.old) (enter_event sums result) (billed self.new) }
     {
         // A match, since a refusal hands the sums back and an accepted enter strikes them: `map_err` would take them for both.
-        match self.standing().may_enter(sums.month()) {
+        match self.take_in(&sums) {
             Err(fault) => Err(Returned { fault, sums }),
-            Ok(next) => {
-                let deposit = deposit_of(&sums);
-                let cap = cap_of(&sums, self.percentage);
-                let bill = bill_of(&sums);
+            Ok(()) => {
                 let _ = sums.strike();
-                enter_store(&mut self.store, deposit, cap);
-                self.bill = bill;
-                self.state = next;
                 Ok(())
             }
         }
+    }
+
+    // Enters a month's sums, which stay the caller's.
+    fn take_in(&mut self, sums: &MonthSums) -> Result<(), AccountFault>
+        ensures answer { result ≡ gives (machine billing) (enter sums.now) (billed self.old) }
+        ensures state { billed self.new ≡ leaves (machine billing) (enter sums.now) (billed self.old) }
+        ensures slots { Accounted (is_ok result) self.old.store self.new.store }
+    {
+        let next = self.may_enter(sums.month())?;
+        enter_store(
+            &mut self.store,
+            deposit_of(sums),
+            cap_of(sums, self.percentage),
+        )?;
+        self.bill = bill_of(sums);
+        self.state = next;
+        Ok(())
     }
 
     // Draws the bill on the deposits by the rule, and writes a line for each open deposit.
@@ -99,9 +110,9 @@ impl<'a> Billing<'a> {
         ensures slots { Accounted (is_ok result) self.old.store self.new.store }
         ensures promised { Keeps billing (billed self.old) (event (settle (R.Rule.gives rule.now) (length lines.old)) result) (billed self.new) }
     {
-        let next = self.standing().may_settle(MOST_PORTIONS, lines.len())?;
+        let next = self.may_settle(MOST_PORTIONS, lines.len())?;
         let before = self.store.lefts();
-        let used = draw_store(&mut self.store, rule, self.bill);
+        let used = draw_store(&mut self.store, rule, self.bill)?;
         let count = write_lines(&self.store, None, &before, lines);
         let payment = paid(self.bill, used, count);
         self.bill = 0;
@@ -117,8 +128,8 @@ impl<'a> Billing<'a> {
         ensures slots { Accounted (is_ok result) self.old.store self.new.store }
         ensures promised { Keeps billing (billed self.old) (event turn result) (billed self.new) }
     {
-        let next = self.standing().may_turn()?;
-        let ended = turn_store(&mut self.store);
+        let next = self.may_turn()?;
+        let ended = turn_store(&mut self.store)?;
         self.state = next;
         Ok(ended)
     }

@@ -6,16 +6,16 @@ ghost use Rattle.accounts.specs.Means.{deposit_kind};
 ghost use Rattle.accounts.specs.Billed.{billed};
 
 use crate::billing::Billing;
+use faults::StoreFault;
 use portions::Kind;
 use portions::deposit::Deposit;
-use settlement::Standing;
+use settlement::{Account, Standing};
 use store::Totals;
 
-impl<'a> Billing<'a> {
-    // Where the account stands: whether it is open, its month and that month's state.
-    pub fn standing(&self) -> Standing
-        ensures { result ≡ billing.standing (billed self.now) }
-    {
+impl<'a> Account for Billing<'a> {
+    ghost stands = { λ b. billing.standing (billed b) };
+
+    fn standing(&self) -> Standing {
         Standing {
             opened: self.store.is_open(),
             month: self.store.month(),
@@ -24,6 +24,12 @@ impl<'a> Billing<'a> {
         }
     }
 
+    fn stores_may_turn(&self) -> Result<(), StoreFault> {
+        self.store.may_turn()
+    }
+}
+
+impl<'a> Billing<'a> {
     // The bill that is not yet settled.
     pub fn bill(&self) -> u32
         ensures { result ≡ (billed self.now).bill }

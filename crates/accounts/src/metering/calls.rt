@@ -14,14 +14,14 @@ ghost use Rattle.accounts.specs.Means.{fewest};
 ghost use Rattle.accounts.specs.Metered.{metered, meter_opening};
 ghost use Rattle.accounts.specs.Slots.{EachSame, EachAccounted};
 
-use crate::inside::{MOST_PORTIONS, enough_slots, month_in_range};
+use crate::inside::{MOST_PORTIONS, month_in_range};
 use crate::metering::coefficient::Coefficient;
 use crate::metering::{Metering, Meters};
 use faults::AccountFault;
 use hours::MonthSums;
 use portions::rules::Rule;
 use portions::{Kind, Slot};
-use settlement::{Line, MonthState, Period, Returned, Settlement, Zones};
+use settlement::{Account, Line, MonthState, Period, Returned, Settlement, Zones};
 use store::Store;
 
 // The fewest lines that a settlement asks for: one for each portion that can be open.
@@ -55,9 +55,9 @@ impl<'a> Metering<'a> {
     fn may_open(&self, month: u16, power: u32, months: u8) -> Result<Period, AccountFault>
         ensures { result ≡ answers (open_refusal (meter_opening (fewest self.now.meters.stores) month power months)) (or_monthly (period_of months)) }
     {
-        enough_slots(self.meters.stores.one.room())?;
-        enough_slots(self.meters.stores.two.room())?;
-        enough_slots(self.meters.stores.three.room())?;
+        self.meters.stores.one.enough_slots()?;
+        self.meters.stores.two.enough_slots()?;
+        self.meters.stores.three.enough_slots()?;
         month_in_range(month)?;
         if power == 0 || power > 50_000 {
             return Err(AccountFault::PowerOutOfRange);
@@ -74,7 +74,7 @@ impl<'a> Metering<'a> {
         ensures promised { OpenKeeps metering (metered self.old) (meter_opening (fewest self.old.meters.stores) month power months) result (metered self.new) }
     {
         let period = self.may_open(month, power, months)?;
-        self.meters.open(month);
+        self.meters.open(month)?;
         self.coefficient = Coefficient::of_power(power);
         self.period = period;
         self.state = MonthState::Waiting;
@@ -89,17 +89,27 @@ impl<'a> Metering<'a> {
         ensures promised { Keeps metering (metered self.old) (enter_event sums result) (metered self.new) }
     {
         // A match, since a refusal hands the sums back and an accepted enter strikes them: `map_err` would take them for both.
-        match self.standing().may_enter(sums.month()) {
+        match self.take_in(&sums) {
             Err(fault) => Err(Returned { fault, sums }),
-            Ok(next) => {
-                let energies = sums.strike();
-                let exports = Zones::from(energies.export);
-                let imports = Zones::from(energies.import);
-                self.meters.enter(exports, imports);
-                self.state = next;
+            Ok(()) => {
+                let _ = sums.strike();
                 Ok(())
             }
         }
+    }
+
+    // Enters a month's sums, which stay the caller's.
+    fn take_in(&mut self, sums: &MonthSums) -> Result<(), AccountFault>
+        ensures answer { result ≡ gives (machine metering) (enter sums.now) (metered self.old) }
+        ensures state { metered self.new ≡ leaves (machine metering) (enter sums.now) (metered self.old) }
+        ensures slots { EachAccounted (is_ok result) self.old.meters.stores self.new.meters.stores }
+    {
+        let next = self.may_enter(sums.month())?;
+        let totals = sums.totals();
+        self.meters
+            .enter(Zones::from(totals.export), Zones::from(totals.import))?;
+        self.state = next;
+        Ok(())
     }
 
     // Covers what is pending in each zone by the rule, from its own store and then from the others, and writes a line for each
@@ -115,10 +125,10 @@ impl<'a> Metering<'a> {
         ensures slots { EachAccounted (is_ok result) self.old.meters.stores self.new.meters.stores }
         ensures promised { Keeps metering (metered self.old) (event (settle (R.Rule.gives rule.now) (length lines.old)) result) (metered self.new) }
     {
-        let next = self.standing().may_settle(FEWEST_LINES, lines.len())?;
+        let next = self.may_settle(FEWEST_LINES, lines.len())?;
         let before = self.meters.lefts();
         let pending = self.meters.pending;
-        self.meters.cover_all(rule, self.coefficient);
+        self.meters.cover_all(rule, self.coefficient)?;
         let count = self.meters.write(&before, lines);
         let due = self.meters.pending;
         self.meters.pending = Zones::default();
@@ -137,8 +147,8 @@ impl<'a> Metering<'a> {
         ensures slots { EachAccounted (is_ok result) self.old.meters.stores self.new.meters.stores }
         ensures promised { Keeps metering (metered self.old) (event turn result) (metered self.new) }
     {
-        let next = self.standing().may_turn()?;
-        let ended = self.meters.turn();
+        let next = self.may_turn()?;
+        let ended = self.meters.turn()?;
         self.state = next;
         Ok(ended)
     }

@@ -1,5 +1,5 @@
 // A settlement's two passes over the stores.
-ghost use Rattle.std.specs.Prelude.{◌≡◌, ◌≤◌, ◌++◌};
+ghost use Rattle.std.specs.Prelude.{◌≡◌, ◌≤◌, ◌++◌, Ok};
 ghost use Rattle.portions.specs.Sums.{sum};
 ghost use Rattle.ledger.specs.Steps.{takings, drawing};
 ghost use Rattle.settlement.specs.Metering.{cover, covers, own_stores, other_stores};
@@ -13,6 +13,7 @@ ghost use Rattle.accounts.specs.Slots.{EachDrawn};
 use crate::inside::draw_store;
 use crate::metering::Meters;
 use crate::metering::coefficient::Coefficient;
+use faults::StoreFault;
 use portions::rules::Rule;
 use settlement::Zone;
 
@@ -32,10 +33,10 @@ const ORDER: [(Zone, Zone); 9] = [
 
 impl<'a> Meters<'a> {
     // Draws on the store of a zone: the sum taken.
-    fn draw<R: Rule>(&mut self, rule: &R, from: Zone, wanted: u32) -> u32
+    fn draw<R: Rule>(&mut self, rule: &R, from: Zone, wanted: u32) -> Result<u32, StoreFault>
         requires ready { Ready self.old.stores }
         requires small { wanted ≤ 1000000000 }
-        ensures used { result ≡ sum (takings (R.Rule.gives rule.now) wanted (of from (each energies self.old.stores))) }
+        ensures answer { result ≡ Ok (sum (takings (R.Rule.gives rule.now) wanted (of from (each energies self.old.stores)))) }
         ensures stores { each energies self.new.stores ≡ put from (drawing (takings (R.Rule.gives rule.now) wanted (of from (each energies self.old.stores))) (of from (each energies self.old.stores))) (each energies self.old.stores) }
         ensures pending { self.new.pending ≡ self.old.pending }
         ensures slots { EachDrawn self.old.stores self.new.stores }
@@ -45,26 +46,40 @@ impl<'a> Meters<'a> {
     }
 
     // Covers what is pending in a zone from the store of a zone.
-    fn cover<R: Rule>(&mut self, rule: &R, coefficient: Coefficient, zone: Zone, from: Zone)
+    fn cover<R: Rule>(
+        &mut self,
+        rule: &R,
+        coefficient: Coefficient,
+        zone: Zone,
+        from: Zone,
+    ) -> Result<(), StoreFault>
         requires ready { Ready self.old.stores }
+        ensures answer { result ≡ Ok tt }
         ensures course { course self.new ≡ cover (R.Rule.gives rule.now) (tenths coefficient) zone from (course self.old) }
         ensures slots { EachDrawn self.old.stores self.new.stores }
         ensures ready { Ready self.new.stores }
     {
         let rest = *self.pending.of(zone);
-        let used = self.draw(rule, from, coefficient.wanted(rest));
+        let used = self.draw(rule, from, coefficient.wanted(rest))?;
         *self.pending.of_mut(zone) = coefficient.uncovered(rest, used);
+        Ok(())
     }
 
     // Covers each zone from its own store, and then each from the stores of the others.
-    pub(super) fn cover_all<R: Rule>(&mut self, rule: &R, coefficient: Coefficient)
+    pub(super) fn cover_all<R: Rule>(
+        &mut self,
+        rule: &R,
+        coefficient: Coefficient,
+    ) -> Result<(), StoreFault>
         requires ready { Ready self.old.stores }
+        ensures answer { result ≡ Ok tt }
         ensures course { course self.new ≡ covers (R.Rule.gives rule.now) (tenths coefficient) (own_stores ++ other_stores) (course self.old) }
         ensures slots { EachDrawn self.old.stores self.new.stores }
         ensures ready { Ready self.new.stores }
     {
         for (zone, from) in ORDER {
-            self.cover(rule, coefficient, zone, from);
+            self.cover(rule, coefficient, zone, from)?;
         }
+        Ok(())
     }
 }

@@ -7,16 +7,16 @@ ghost use Rattle.accounts.specs.Means.{energy_kind};
 ghost use Rattle.accounts.specs.Metered.{metered};
 
 use crate::metering::Metering;
+use faults::StoreFault;
 use portions::Kind;
 use portions::energy::Energy;
-use settlement::{Standing, Zone, Zones};
+use settlement::{Account, Standing, Zone, Zones};
 use store::Totals;
 
-impl<'a> Metering<'a> {
-    // Where the account stands: whether it is open, its month and that month's state, and whether a period ends with it.
-    pub fn standing(&self) -> Standing
-        ensures { result ≡ metering.standing (metered self.now) }
-    {
+impl<'a> Account for Metering<'a> {
+    ghost stands = { λ a. metering.standing (metered a) };
+
+    fn standing(&self) -> Standing {
         let one = &self.meters.stores.one;
         let month = one.month();
         Standing {
@@ -27,6 +27,12 @@ impl<'a> Metering<'a> {
         }
     }
 
+    fn stores_may_turn(&self) -> Result<(), StoreFault> {
+        self.meters.may_turn()
+    }
+}
+
+impl<'a> Metering<'a> {
     // The import that is pending in each zone.
     pub fn pending(&self) -> Zones<u32>
         ensures { result ≡ (metered self.now).pending }

@@ -20,6 +20,6 @@ returns-clause-slots g c =
     let state = e.state ∙ ap (λ o. becomes o (drawing xs l) l) (draw_allowed l c.requires.ready c.args.wanted c.requires.small) in
     let long = ap (λ (x : Ledger _). length x.portions) state ∙ length_taking xs l.portions in
     record {
-      accounted = subst (λ b. Accounted b s s') (ap is_ok c.unwrap.ensures) e.slots;
+      accounted = subst (λ b. Accounted b s s') (ap is_ok c.in_ok-draw.was) e.slots;
       same_use = omega (arith, long, in_use_is k s, in_use_is k s');
     }

@@ -1,8 +1,9 @@
 use Rattle.std.proofs.Common.{rules, ◌≡◌, ◌≤◌, Ok, length, ◌∙◌, arith}
 use Rattle.portions.specs.Listed.{listed}
+use Rattle.portions.specs.Sums.{sum}
 use Rattle.store.proofs.Lawful.{lawful_rule}
 use Rattle.settlement.specs.Accounts.Call.{settle}
-use Rattle.settlement.specs.Billing.{billing, payment}
+use Rattle.settlement.specs.Billing.{billing, paid, payment}
 use Rattle.settlement.proofs.Billed.{billing_keeps}
 use Rattle.settlement.proofs.Keeps.{keeps_call}
 use Rattle.accounts.specs.Means.{deposit_kind, deposits}
@@ -21,14 +22,15 @@ returns-in_err-next-clause-promised g c =
 pub write_lines-count-requires-clause-room : goal.write_lines-count-requires-clause-room
 write_lines-count-requires-clause-room g c =
     let room : 13 ≤ length c.args.lines.now = search rules in
-    omega (arith, room, few_open deposit_kind c.draw_store-used.new.store)
+    omega (arith, room, few_open deposit_kind c.draw_store.new.store)
 
 pub returns-clause-answer : goal.returns-clause-answer
 returns-clause-answer g c =
     let b = billed c.args.self.now in
     let rule = g.R.Rule.gives c.args.rule.now in
-    let e = c.draw_store-used.ensures in
-    let paid : c.paid-payment.result ≡ payment rule b = c.paid-payment.ensures ∙ payment_is rule b (deposits c.draw_store-used.new.store) e.state (listed c.lefts-before.result) c.lefts-before.ensures _ _ e.used c.write_lines-count.ensures.count in
+    let e = c.draw_store.ensures in
+    let used : c.in_ok-used.used ≡ sum (paid rule b) = search rules in
+    let paid' : c.paid-payment.result ≡ payment rule b = c.paid-payment.ensures ∙ payment_is rule b (deposits c.draw_store.new.store) e.state (listed c.lefts-before.result) c.lefts-before.ensures _ _ used c.write_lines-count.ensures.count in
     search rules
 
 pub returns-clause-promised : goal.returns-clause-promised

@@ -10,4 +10,4 @@ pub returns-in_err-next-clause-promised : goal.returns-in_err-next-clause-promis
 returns-in_err-next-clause-promised c = keeps_call billing billing_keeps (billed c.args.self.now) _ turn tt c.from_residual.result (search rules) (search rules)
 
 pub returns-clause-promised : goal.returns-clause-promised
-returns-clause-promised c = keeps_call billing billing_keeps (billed c.args.self.now) _ turn tt (Ok c.turn_store-ended.result) (search rules) (search rules)
+returns-clause-promised c = keeps_call billing billing_keeps (billed c.args.self.now) _ turn tt (Ok c.in_ok-ended.ended) (search rules) (search rules)

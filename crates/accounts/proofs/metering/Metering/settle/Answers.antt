@@ -1,46 +1,65 @@
-use Rattle.std.proofs.Common.{rules, ◌≡◌, ◌-◌, Ok, length, ap, ◌∙◌, arith}
-use Rattle.std.proofs.lemmas.Grind.{common_steps}
+use Rattle.std.proofs.Common.{rules, ◌≡◌, ℕ, ◌-◌, Ok, length, sym, ap, ◌∙◌, arith}
 use Rattle.portions.specs.Listed.{listed}
 use Rattle.store.proofs.Lawful.{lawful_rule}
-use Rattle.settlement.specs.Zones.{each, each_two}
-use Rattle.settlement.specs.declared.states.MonthState.TheVariants.{Settled}
-use Rattle.ledger.specs.Calls.{answers}
-use Rattle.settlement.specs.Standing.{settle_refusal}
+use Rattle.settlement.specs.Zones.{all, each, each_two}
+use Rattle.settlement.specs.declared.states.MonthState.TheVariants.{Waiting, Settled}
+use Rattle.ledger.specs.Calls.{answers, becomes}
+use Rattle.settlement.specs.Lines.{written}
 use Rattle.settlement.specs.Accounts.{refusal}
 use Rattle.settlement.specs.Accounts.Call.{settle}
-use Rattle.settlement.specs.Metering.{metering, settlement, settling_meter}
+use Rattle.settlement.specs.Metering.{metering, meter_lines, settlement, settling_meter}
 use Rattle.settlement.proofs.Metered.{metering_keeps}
 use Rattle.settlement.proofs.Keeps.{keeps_call}
 use Rattle.accounts.specs.Metered.{course, metered}
-use Rattle.accounts.proofs.Refused.{refused}
-use Rattle.accounts.proofs.Meters.{answer_is}
+use Rattle.accounts.proofs.Refused.{accepted, refused}
+use Rattle.accounts.proofs.Meters.{answer_is, settling_is}
 use Rattle.accounts.proofs.metering.Metering.settle.Goals as goal
 
-pub returns-in_err-next-clause-promised : goal.returns-in_err-next-clause-promised
-returns-in_err-next-clause-promised g c =
+pub returns-in_err-next : goal.returns-in_err-next
+returns-in_err-next g c =
     let a = metered c.args.self.now in
     let r = c.args.rule.now in
     let rule = g.R.Rule.gives r in
-    let lines = length c.args.lines.now in
+    let lines = c.args.lines.now in
+    let o = refusal metering (settle rule (length lines)) a in
     let law = lawful_rule rule (g.met.R.Rule.sized r) (g.met.R.Rule.bounded r) (g.met.R.Rule.full r) in
-    let why = c.in_err-next.ensures ∙ ap (λ s. answers (settle_refusal s 39 lines) Settled) c.standing.ensures in
-    let left = refused (refusal metering (settle rule lines) a) _ Settled (settlement rule a) c.from_residual.result (settling_meter rule a) a why c.from_residual.ensures.1 in
-    keeps_call metering metering_keeps a a (settle rule lines) law c.from_residual.result left.0 left.1
+    let left = refused o _ Settled (settlement rule a) c.from_residual.result (settling_meter rule a) a c.in_err-next.ensures c.from_residual.ensures.1 in
+    let same = refused o _ Settled (settlement rule a) c.from_residual.result (written (meter_lines rule a) lines) lines c.in_err-next.ensures c.from_residual.ensures.1 in
+    record {
+      answer = left.0;
+      state = left.1;
+      lines = same.1;
+      slots = search rules;
+      promised = keeps_call metering metering_keeps a a (settle rule (length lines)) law c.from_residual.result left.0 left.1;
+    }
 
-pub returns-clause-answer : goal.returns-clause-answer
-returns-clause-answer g c =
-    let a = metered c.args.self.now in
+pub invariant_of-self-3-clause-free : goal.invariant_of-self-3-clause-free
+invariant_of-self-3-clause-free g c =
     let rule = g.R.Rule.gives c.args.rule.now in
+    let ok = accepted (refusal metering (settle rule (length c.args.lines.now)) (metered c.args.self.now)) Settled c.in_ok-next.next c.in_ok-next.ensures in
+    λ waiting. let no : Waiting ≡ Settled = sym waiting ∙ ok.1 in let z : ◌≡◌ {A = ℕ} 0 1 = cc in absurd (omega arith)
+
+pub returns : goal.returns
+returns g c =
+    let a = metered c.args.self.now in
+    let r = c.args.rule.now in
+    let rule = g.R.Rule.gives r in
+    let lines = c.args.lines.now in
+    let law = lawful_rule rule (g.met.R.Rule.sized r) (g.met.R.Rule.bounded r) (g.met.R.Rule.full r) in
+    let ok = accepted (refusal metering (settle rule (length lines)) a) Settled c.in_ok-next.next c.in_ok-next.ensures in
     let end = course c.cover_all.new.self in
     let covered : c.zip_with.result ≡ each_two (λ p rest. p - rest) a.pending end.rests = search rules in
     let answer : record { covered = c.zip_with.result; due = end.rests; lines = c.write-count.result } ≡ settlement rule a =
     answer_is rule a end c.cover_all.ensures.course (each listed c.lefts-before.result) c.lefts-before.ensures _ _ covered c.write-count.ensures.count in
-    grind (arith, common_steps)
-
-pub returns-clause-promised : goal.returns-clause-promised
-returns-clause-promised g c =
-    let r = c.args.rule.now in
-    let rule = g.R.Rule.gives r in
-    let law = lawful_rule rule (g.met.R.Rule.sized r) (g.met.R.Rule.bounded r) (g.met.R.Rule.full r) in
-    let end = course c.cover_all.new.self in
-    keeps_call metering metering_keeps (metered c.args.self.now) _ (settle rule (length c.args.lines.now)) law (Ok (record { covered = c.zip_with.result; due = end.rests; lines = c.write-count.result })) (returns-clause-answer g c) (search rules)
+    let written' : c.write-count.new.lines ≡ written (meter_lines rule a) lines = search rules in
+    let none : c.default-self.result ≡ all 0 = search rules in
+    let settled = settling_is rule a end c.cover_all.ensures.course _ _ _ c.cover_all.ensures.ready.0 ok.1 none in
+    let gave = ap Ok answer ∙ ap (λ o. answers o (settlement rule a)) ok.0 in
+    let left = settled ∙ ap (λ o. becomes o (settling_meter rule a) a) ok.0 in
+    record {
+      answer = gave;
+      state = left;
+      lines = written' ∙ ap (λ o. becomes o (written (meter_lines rule a) lines) lines) ok.0;
+      slots = search rules;
+      promised = keeps_call metering metering_keeps a _ (settle rule (length lines)) law (Ok (record { covered = c.zip_with.result; due = end.rests; lines = c.write-count.result })) gave left;
+    }
