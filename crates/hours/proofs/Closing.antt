@@ -5,11 +5,13 @@ use Rattle.std.specs.Option.{option_or}
 use Rattle.calendar.specs.Hour.{month_hours}
 use Rattle.faults.specs.declared.BookFault.{BookFault}
 use Rattle.faults.specs.declared.BookFault.TheVariants.{HoursMissing}
+use Rattle.hours.specs.Balance.{balance, energy_given, energy_taken}
 use Rattle.hours.specs.Marks.{zone_by_marks}
 use Rattle.hours.specs.Reading.{hours_of, zone_at}
 use Rattle.hours.specs.Opening.{book_open_refusal, Opened}
 use Rattle.hours.specs.Month.{HourRead, sum_over, taken_in, given_in, costs, Sums, HasRead, Finished}
-use Rattle.hours.specs.Whole.{hours_from, MonthSummed, refused_at, refused_from, missing, month_refusal, until_refused, questions_from, month_questions, asked_for}
+use Rattle.hours.specs.Source.{asked_for}
+use Rattle.hours.specs.Whole.{hours_from, MonthSummed, refused_at, refused_from, missing, month_refusal, until_refused, questions_from, month_questions}
 use Rattle.hours.specs.declared.prices.PriceSource.{Ghosts}
 use Rattle.hours.specs.declared.book.Reading.{Reading}
 use Rattle.hours.specs.declared.book.Terms.{Terms}
@@ -33,8 +35,8 @@ sums_by : (zone zone' : ℕ → ℕ) (sale : List ℕ) (hs : List HourRead) (y :
 sums_by zone zone' sale hs y e s =
     let at : (j : ℕ) → j < 0 + length hs → zone j ≡ zone' j = λ j h. e j (omega arith) in
     record {
-      imports = λ z a b. s.imports z a b ∙ same_sum (taken_in zone z) (taken_in zone' z) 0 hs (λ j x h. ap (λ n. cond (eqb n z) (x.import - x.export) 0) (at j h));
-      exports = λ z a b. s.exports z a b ∙ same_sum (given_in zone z) (given_in zone' z) 0 hs (λ j x h. ap (λ n. cond (eqb n z) (x.export - x.import) 0) (at j h));
+      imports = λ z a b. s.imports z a b ∙ same_sum (taken_in zone z) (taken_in zone' z) 0 hs (λ j x h. ap (λ n. cond (eqb n z) (energy_taken (balance x.import x.export)) 0) (at j h));
+      exports = λ z a b. s.exports z a b ∙ same_sum (given_in zone z) (given_in zone' z) 0 hs (λ j x h. ap (λ n. cond (eqb n z) (energy_given (balance x.import x.export)) 0) (at j h));
       charge = s.charge ∙ same_sum (costs zone sale) (costs zone' sale) 0 hs (λ j x h. ap (λ n. costs (λ k. n) sale j x) (at j h));
       value = s.value;
     }

@@ -1,16 +1,20 @@
 -- What a book has read, hour after hour.
-use Rattle.std.proofs.Common.{◌≡◌, ℕ, zero, suc, ◌+◌, ◌-◌, ◌<◌, ◌≤◌, cond, eqb, ◌≢◌, List, [], ◌∷◌, ◌++◌, length, get_or, ℤ, Some, None, Option, Result, sym, refl, ap, ◌∙◌, subst, inl, inr, add-zero, add_assoc, add-suc, suc-add, zero-add, arith, lit≤, length-append, get_or-set_other, get_or-set_same}
+use Rattle.std.proofs.Common.{◌≡◌, ℕ, zero, suc, ◌+◌, ◌-◌, ◌*◌, ◌<◌, ◌≤◌, Bool, true, false, cond, eqb, ltb, leb, ◌≢◌, List, [], ◌∷◌, ◌++◌, length, get_or, ℤ, Some, None, Ok, Option, Result, sym, refl, ap, ◌∙◌, subst, inl, inr, add-zero, add_assoc, add-suc, suc-add, zero-add, arith, lit≤, length-append, get_or-set_other, get_or-set_same}
 use Rattle.std.proofs.lemmas.Bool.Decides.{eqb_tells, nat_tests}
+use Rattle.std.proofs.lemmas.Bool.{false≢true}
 use Rattle.faults.specs.declared.BookFault.{BookFault}
+use Rattle.faults.specs.declared.BookFault.TheVariants.{ReadingTooLarge, BookComplete}
+use Rattle.hours.specs.Balance.{balance, energy_given, energy_taken}
 use Rattle.hours.specs.Price.{worth}
 use Rattle.hours.specs.Zones.{zone_number}
 use Rattle.hours.specs.declared.zones.Zone.{Zone}
 use Rattle.hours.specs.declared.zones.Zone.TheVariants.{First, Second, Third}
 use Rattle.hours.specs.Bounds.{Bounded}
-use Rattle.hours.specs.Reading.{hours_of, zone_at, more, joined, read_refusal, unless, reading, joined_at, ReadsIn, answer, after, nothing}
+use Rattle.hours.specs.Reading.{hours_of, zone_at, more, joined, needs_price, read_refusal, too_large, unpriced, unless, reading, joined_at, ReadsIn, answer, after, nothing}
 use Rattle.hours.specs.Month.{HourRead, sum_over, taken_in, given_in, costs, earns, HasRead, ReadsOn}
 use Rattle.hours.specs.declared.book.Terms.{Terms}
 use Rattle.hours.specs.declared.book.Tally.{Tally}
+use Rattle.hours.proofs.Balance.{none_given}
 
 -- one entry more at the end of a sum
 pub sum_push : {A : Type 0} (f : ℕ → A → ℕ) (k : ℕ) (xs : List A) (x : A) → sum_over f k (xs ++ (x ∷ [])) ≡ sum_over f k xs + f (k + length xs) x
@@ -60,10 +64,10 @@ sums_more t y i e g hs li le r =
       hours = ap (λ n. n + 1) at ∙ sym (length-append hs (h ∷ []));
       sums = record {
         imports = λ k a b. next (taken_in z k) hs h _ _
-            (in_zone (z y.hours) k (i - e) y.totals.import o li a b ∙ ap (λ p. get_or y.totals.import (k - 1) 0 + taken_in z k p h) at)
+            (in_zone (z y.hours) k (energy_taken (balance i e)) y.totals.import o li a b ∙ ap (λ p. get_or y.totals.import (k - 1) 0 + taken_in z k p h) at)
             (r.sums.imports k a b);
         exports = λ k a b. next (given_in z k) hs h _ _
-            (in_zone (z y.hours) k (e - i) y.totals.export o le a b ∙ ap (λ p. get_or y.totals.export (k - 1) 0 + given_in z k p h) at)
+            (in_zone (z y.hours) k (energy_given (balance i e)) y.totals.export o le a b ∙ ap (λ p. get_or y.totals.export (k - 1) 0 + given_in z k p h) at)
             (r.sums.exports k a b);
         charge = next (costs z t.sale) hs h _ _ (ap (λ p. y.totals.charge + costs z t.sale p h) at) r.sums.charge;
         value = next earns hs h _ _ refl r.sums.value;
@@ -95,9 +99,30 @@ accepted t y i e z (Some price) r h =
 pub joins : (t : Terms) (y : Tally) (i e rate : ℕ) (g : Option ℤ) (y' : Tally) → read_refusal (hours_of t) y.hours i e g ≡ None → rate ≡ worth g → y' ≡ joined_at t y i e rate → y' ≡ after y (reading t y i e g)
 joins t y i e rate g y' n w j = j ∙ ap (joined_at t y i e) w ∙ sym (ap (λ f. after y (unless f (joined t y i e g))) n)
 
--- where the export is not larger, no price does as well as any
+-- where the export is not larger, an hour is joined alike at any price
+joined_free : (t : Terms) (y : Tally) (i e : ℕ) (g g' : Option ℤ) → e ≤ i → joined t y i e g ≡ joined t y i e g'
+joined_free t y i e g g' h =
+    let n = none_given i e h in
+    let v : (w : ℕ) → y.totals.value + energy_given (balance i e) * w ≡ y.totals.value = λ w. rw n (omega arith) in
+    ap (λ (x : ℕ). record { hours = y.hours + 1; totals = record { import = (joined t y i e g).totals.import; export = (joined t y i e g).totals.export; charge = (joined t y i e g).totals.charge; value = x } })
+    (v (worth g) ∙ sym (v (worth g')))
+
+-- no price does as well as any
 pub at_no_price : (t : Terms) (y : Tally) (i e : ℕ) (g : Option ℤ) → e ≤ i → reading t y i e None ≡ reading t y i e g
-at_no_price t y i e g h = grind (arith, nat_tests)
+at_no_price t y i e g h = let n = none_given i e h in grind (arith, nat_tests)
+
+-- nor does any matter where none is needed
+same_unless : (large complete priced : Bool) (g g' : Option ℤ) (y y' : Tally) → cond large false (cond complete false priced) ≡ false → (priced ≡ false → y ≡ y')
+    → unless (cond large (Some ReadingTooLarge) (cond complete (Some BookComplete) (cond priced (unpriced g) None))) y
+    ≡ unless (cond large (Some ReadingTooLarge) (cond complete (Some BookComplete) (cond priced (unpriced g') None))) y'
+same_unless true complete priced g g' y y' n j = refl
+same_unless false true priced g g' y y' n j = refl
+same_unless false false true g g' y y' n j = absurd (false≢true (sym n))
+same_unless false false false g g' y y' n j = ap Ok (j refl)
+
+pub unneeded_alike : (t : Terms) (y : Tally) (i e : ℕ) (g g' : Option ℤ) → needs_price (hours_of t) y.hours i e ≡ false → reading t y i e g ≡ reading t y i e g'
+unneeded_alike t y i e g g' n =
+    same_unless (too_large i e) (leb (hours_of t) y.hours) (ltb i e) g g' _ _ n (λ h. let k : e ≤ i = grind (arith, nat_tests) in joined_free t y i e g g' k)
 
 zero_at : (k : ℕ) → ◌≡◌ {A = ℕ} (get_or (0 ∷ 0 ∷ 0 ∷ []) k 0) 0
 zero_at zero = refl

@@ -1,9 +1,9 @@
 pub mod Balance
 pub mod History
+pub mod Sources
 pub mod Calls
 pub mod Openings
 pub mod Months
 pub mod Closing
 pub mod Summed
 pub mod Packed
-pub mod Sources

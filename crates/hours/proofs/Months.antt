@@ -5,13 +5,14 @@ use Rattle.std.proofs.lemmas.Bool.{false≢true}
 use Rattle.faults.specs.declared.BookFault.{BookFault}
 use Rattle.hours.specs.Reading.{hours_of, joined, read_refusal, needs_price, unless, answer}
 use Rattle.hours.specs.Month.{HourRead, HasRead, ReadsOn}
-use Rattle.hours.specs.Source.{next_price, next_reading, next_hour, next_state}
-use Rattle.hours.specs.Whole.{hours_from, refused_at, refused_from, until_refused, and_at, questions_from, asked_for}
+use Rattle.hours.specs.Source.{next_price, next_reading, next_hour, next_state, asked_for}
+use Rattle.hours.specs.Whole.{hours_from, refused_at, refused_from, until_refused, and_at, questions_from}
 use Rattle.hours.specs.declared.prices.PriceSource.{Ghosts}
 use Rattle.hours.specs.declared.book.Reading.{Reading}
 use Rattle.hours.specs.declared.book.Terms.{Terms}
 use Rattle.hours.specs.declared.book.Tally.{Tally}
 use Rattle.hours.specs.declared.whole.MonthRefused.{MonthRefused}
+use Rattle.hours.proofs.Sources.{asked_first, steady_next}
 
 -- the reading at place i of the list
 abbrev pub reading_at : List Reading → ℕ → Reading
@@ -60,12 +61,6 @@ questions_then hours prices rs i f h e =
     ap (questions_from hours prices i) (reading_then rs i h)
     ∙ ap (λ o. and_at (needs_price hours i (reading_at rs i).import (reading_at rs i).export) i (until_refused o (questions_from hours prices (suc i) (drop (i + 1) rs)))) e
     ∙ rw add-one refl
-
--- a question first, if there is one, and then the others
-pub asked_first : {S : Type 0} (G : Ghosts S) (m k : ℕ) (b : Bool) (ks : List ℕ) (s : G.State)
-    → asked_for G m (and_at b k ks) s ≡ asked_for G m ks (cond b (G.asked s m k) s)
-asked_first G m k true ks s = refl
-asked_first G m k false ks s = refl
 
 hours_append : (prices : ℕ → Option ℤ) (k : ℕ) (rs : List Reading) (r : Reading)
     → hours_from prices k (rs ++ (r ∷ [])) ≡ hours_from prices k rs ++ ((record { import = r.import; export = r.export; price = prices (k + length rs) }) ∷ [])
@@ -135,18 +130,6 @@ asked_on G t s₀ rs i t₁ y s s' f w h e a =
     ∙ asked_first G m i b ks s
     ∙ ap (λ x. asked_for G m ks x) (sym (a ∙ state_of G t s₀ rs i t₁ y s w h))
 
-by_cond : {X : Type 0} (b : Bool) (P : X → Type 0) (x y : X) → P x → P y → P (cond b x y)
-by_cond true P x y p q = p
-by_cond false P x y p q = q
-
--- asking changes no later answer
-still : {S : Type 0} (G : Ghosts S) → ((s : G.State) (m p n q : ℕ) → G.gives (G.asked s m p) n q ≡ G.gives s n q)
-    → (s s' : G.State) (t : Terms) (y : Tally) (imp exp : ℕ) → s' ≡ next_state G s t y imp exp → (m p : ℕ) → G.gives s' m p ≡ G.gives s m p
-still G steady s s' t y imp exp a m p =
-    ap (λ x. G.gives x m p) a
-    ∙ by_cond (needs_price (hours_of t) y.hours imp exp) (λ x. G.gives x m p ≡ G.gives s m p) _ _
-    (steady s t.month.number y.hours m p) refl
-
 hours_more : (prices : ℕ → Option ℤ) (rs : List Reading) (i : ℕ) → i < length rs
     → hours_from prices 0 (take (i + 1) rs) ≡ hours_from prices 0 (take i rs) ++ ((record { import = (reading_at rs i).import; export = (reading_at rs i).export; price = prices i }) ∷ [])
 hours_more prices rs i h =
@@ -170,7 +153,7 @@ read_to_more {S} G steady t s₀ rs i t₁ t' y y' s s' w h c₁ =
     let g : next_price G s t y ≡ P i = w.prices t.month.number y.hours ∙ ap P (place G t s₀ rs i t₁ y s w h) in
     record {
       terms = c.terms;
-      prices = λ m p. still G steady s s' t y imp exp c.asked m p ∙ w.prices m p;
+      prices = λ m p. ap (λ x. G.gives x m p) c.asked ∙ steady_next G steady s t y imp exp m p ∙ w.prices m p;
       history = subst (λ (hs : List HourRead). HasRead t hs y') (sym (hours_more P rs i h))
           (subst (λ (o : Option ℤ). HasRead t (hours_from P 0 (take i rs) ++ ((record { import = imp; export = exp; price = o }) ∷ [])) y') g
           (c.history (hours_from P 0 (take i rs)) w.history));

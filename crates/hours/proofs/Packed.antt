@@ -4,7 +4,7 @@ use Rattle.std.proofs.lemmas.List.{get_or-map}
 use Rattle.std.proofs.lemmas.List.FromFn.{fill_by_all, get_or-map-range_with_len, length-map-range_with_len}
 use Rattle.std.proofs.lemmas.Nat.{shr-shr}
 use Rattle.std.proofs.Math.Nat.{pow-le-pow_right}
-use Rattle.hours.specs.Marks.{marks_of, rows_of, zone_kept}
+use Rattle.hours.specs.Marks.{MarkedBy, mark_at, marks_of, rows_of, zone_kept}
 use Rattle.hours.specs.Packed.{Coded, bits_in, packed, zone_in, zones_in}
 use Rattle.hours.specs.Zones.{zone_bits, zone_number, zone_of_bits}
 use Rattle.hours.specs.declared.marks.Marks.{Marks}
@@ -90,9 +90,13 @@ mark_in bits c h =
     let l = length-map-range_with_len (λ k. zone_in bits k) 0 24 in
     sym (get_or-map zone_number (zones_in bits) c First 0 (omega arith) ∙ ap zone_number (get_or-map-range_with_len (λ k. zone_in bits k) 0 24 c c First h (omega arith)))
 
-pub mark_kept : (m : Marks) (weekend : Bool) (c : ℕ) → c < 24 → zone_number (zone_kept m weekend c) ≡ get_or (get_or (rows_of m) (cond weekend 1 0) []) c 0
-mark_kept m true c h = mark_in m.weekend c h
-mark_kept m false c h = mark_in m.working c h
+-- marks that unpack to two rows have the zones that these name
+pub marked_by : (m : Marks) (rows : List (List ℕ)) → rows_of m ≡ rows → MarkedBy m rows
+marked_by m rows e = record { unpacked = e; named = λ weekend c h. named weekend c h ∙ ap (λ x. mark_at x weekend c) e }
+  where
+    named : (weekend : Bool) (c : ℕ) → c < 24 → zone_number (zone_kept m weekend c) ≡ mark_at (rows_of m) weekend c
+    named true c h = mark_in m.weekend c h
+    named false c h = mark_in m.working c h
 
 -- two rows, by their places
 pub both_rows : (rows : List (List ℕ)) → length rows ≡ 2 → get_or rows 0 [] ∷ get_or rows 1 [] ∷ [] ≡ rows

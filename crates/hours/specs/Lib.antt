@@ -3,9 +3,11 @@ pub mod Zones
 pub mod Packed
 pub mod Marks
 pub mod Bounds
+pub mod Balance
 pub mod Reading
 pub mod Opening
 pub mod Source
 pub mod Month
 pub mod Summed
 pub mod Whole
+pub mod Runs

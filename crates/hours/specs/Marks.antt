@@ -1,5 +1,5 @@
 -- Zone marks: the zone of each clock hour, 24 of a working day and 24 of a Saturday or Sunday.
-use Rattle.std.specs.Prelude.{◌≡◌, ℕ, Bool, false, cond, List, [], ◌∷◌, Result, MatchResult, map, slice_index, slice_index_or}
+use Rattle.std.specs.Prelude.{◌≡◌, ℕ, ◌<◌, Bool, false, cond, List, [], ◌∷◌, Result, MatchResult, map, slice_index, slice_index_or}
 use Rattle.std.specs.List.{list_all}
 use Rattle.calendar.specs.Hour.{hour_of_place}
 use Rattle.faults.specs.declared.BookFault.{BookFault}
@@ -13,9 +13,13 @@ use Rattle.hours.specs.declared.zones.Zone.{Zone}
 abbrev pub each_zone : List ℕ → Bool
 each_zone row = list_all names_zone row
 
+-- the mark of a clock hour of a working day, or of a Saturday or Sunday, in two rows
+abbrev pub mark_at : List (List ℕ) → Bool → ℕ → ℕ
+mark_at rows weekend clock = slice_index (slice_index_or rows (cond weekend 1 0) []) clock
+
 -- the zone at place p of month m, by the two rows of marks
 abbrev pub zone_by_marks : List (List ℕ) → ℕ → ℕ → ℕ
-zone_by_marks marks m p = slice_index (slice_index_or marks (cond (hour_of_place m p).weekend 1 0) []) (hour_of_place m p).clock
+zone_by_marks marks m p = mark_at marks (hour_of_place m p).weekend (hour_of_place m p).clock
 
 -- the marks that name a row of zones
 abbrev pub marks_of : List Zone → List ℕ
@@ -32,3 +36,8 @@ zone_kept m weekend clock = zone_in (cond weekend m.weekend m.working) clock
 -- the two rows that marks are of: of a working day, and of a Saturday or Sunday
 abbrev pub rows_of : Marks → List (List ℕ)
 rows_of m = marks_of (zones_in m.working) ∷ marks_of (zones_in m.weekend) ∷ []
+
+-- the marks are those of the two rows: unpacked, they are the rows again, and in either each clock hour has the zone that its mark names
+pub record MarkedBy (m : Marks) (rows : List (List ℕ)) : Type 0 where
+  pub unpacked : rows_of m ≡ rows
+  pub named : (weekend : Bool) (clock : ℕ) → clock < 24 → zone_number (zone_kept m weekend clock) ≡ mark_at rows weekend clock

@@ -1,6 +1,7 @@
 -- The sums over the hours that were read, zone by zone.
 use Rattle.std.specs.Prelude.{◌≡◌, ℕ, suc, ◌+◌, ◌-◌, ◌*◌, ◌≤◌, cond, List, [], ◌∷◌, ◌++◌, length, ℤ, Ok, Err, Option, Result, ◌==◌, slice_index}
 use Rattle.faults.specs.declared.BookFault.{BookFault}
+use Rattle.hours.specs.Balance.{balance, energy_taken, energy_given}
 use Rattle.hours.specs.Price.{worth}
 use Rattle.hours.specs.Reading.{hours_of, zone_at, sale_price}
 use Rattle.hours.specs.declared.book.Terms.{Terms}
@@ -20,19 +21,19 @@ sum_over f k (x ∷ xs) = f k x + sum_over f (suc k) xs
 
 -- the energy that the hour at place k took in zone z; `zone` is the zone of each place
 abbrev pub taken_in : (ℕ → ℕ) → ℕ → ℕ → HourRead → ℕ
-taken_in zone z k h = cond (zone k == z) (h.import - h.export) 0
+taken_in zone z k h = cond (zone k == z) (energy_taken (balance h.import h.export)) 0
 
 -- the energy that it gave in zone z
 abbrev pub given_in : (ℕ → ℕ) → ℕ → ℕ → HourRead → ℕ
-given_in zone z k h = cond (zone k == z) (h.export - h.import) 0
+given_in zone z k h = cond (zone k == z) (energy_given (balance h.import h.export)) 0
 
 -- what it costs at the sale price of its zone
 abbrev pub costs : (ℕ → ℕ) → List ℕ → ℕ → HourRead → ℕ
-costs zone sale k h = (h.import - h.export) * sale_price sale (zone k)
+costs zone sale k h = energy_taken (balance h.import h.export) * sale_price sale (zone k)
 
 -- what it earns at its price
 abbrev pub earns : ℕ → HourRead → ℕ
-earns k h = (h.export - h.import) * worth h.price
+earns k h = energy_given (balance h.import h.export) * worth h.price
 
 -- the totals are the sums over the hours: imports and exports of the zones 1 to 3, the charge and the value
 pub record Sums (zone : ℕ → ℕ) (sale : List ℕ) (hs : List HourRead) (y : Totals) : Type 0 where

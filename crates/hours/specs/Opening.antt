@@ -4,7 +4,7 @@ use Rattle.std.specs.List.{list_all}
 use Rattle.calendar.specs.Hour.{month_hours}
 use Rattle.faults.specs.declared.BookFault.{BookFault}
 use Rattle.faults.specs.declared.BookFault.TheVariants.{MonthOutOfRange, MarkOutOfRange, SalePriceTooHigh}
-use Rattle.hours.specs.Marks.{each_zone, rows_of, zone_by_marks}
+use Rattle.hours.specs.Marks.{MarkedBy, each_zone, zone_by_marks}
 use Rattle.hours.specs.Reading.{zone_at, nothing}
 use Rattle.hours.specs.declared.book.Terms.{Terms}
 use Rattle.hours.specs.declared.book.Tally.{Tally}
@@ -23,7 +23,7 @@ book_open_refusal m marks sale =
 pub record Opened (m : ℕ) (marks : List (List ℕ)) (sale : List ℕ) (t : Terms) (y : Tally) : Type 0 where
   pub accepted : book_open_refusal m marks sale ≡ None
   pub month : t.month.number ≡ m
-  pub marked : rows_of t.marks ≡ marks
+  pub marked : MarkedBy t.marks marks
   pub sales : t.sale ≡ sale
   pub zones : (p : ℕ) → p < month_hours m → zone_at t p ≡ zone_by_marks marks m p
   pub unread : y ≡ nothing

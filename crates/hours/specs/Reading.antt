@@ -3,6 +3,7 @@ use Rattle.std.specs.Prelude.{◌≡◌, ℕ, ◌+◌, ◌-◌, ◌*◌, ◌<◌
 use Rattle.calendar.specs.Hour.{hour_of_place, month_hours}
 use Rattle.faults.specs.declared.BookFault.{BookFault}
 use Rattle.faults.specs.declared.BookFault.TheVariants.{ReadingTooLarge, BookComplete, NoPrice}
+use Rattle.hours.specs.Balance.{balance, energy_taken, energy_given}
 use Rattle.hours.specs.Marks.{zone_kept}
 use Rattle.hours.specs.Price.{worth}
 use Rattle.hours.specs.Zones.{zone_number}
@@ -38,9 +39,10 @@ grown z taken given sale price y =
       };
     }
 
--- the next hour joined to the tally: import − export is taken where it is positive, export − import given where that is
+-- the next hour joined to the tally, its balance split by the sign
 abbrev pub joined_at : Terms → Tally → ℕ → ℕ → ℕ → Tally
-joined_at t y i e price = grown (zone_at t y.hours) (i - e) (e - i) (sale_price t.sale (zone_at t y.hours)) price y
+joined_at t y i e price =
+    grown (zone_at t y.hours) (energy_taken (balance i e)) (energy_given (balance i e)) (sale_price t.sale (zone_at t y.hours)) price y
 
 -- the same at the price that the source gives
 abbrev pub joined : Terms → Tally → ℕ → ℕ → Option ℤ → Tally

@@ -1,5 +1,5 @@
 -- A whole month, from the list of its readings.
-use Rattle.std.specs.Prelude.{◌≡◌, ℕ, suc, Bool, true, false, cond, List, [], ◌∷◌, length, ℤ, Some, None, fold, Option, nat_lt}
+use Rattle.std.specs.Prelude.{◌≡◌, ℕ, suc, Bool, true, false, cond, List, [], ◌∷◌, length, ℤ, Some, None, Option, nat_lt}
 use Rattle.std.specs.Option.{option_or}
 use Rattle.calendar.specs.Hour.{month_hours}
 use Rattle.faults.specs.declared.BookFault.{BookFault}
@@ -8,7 +8,6 @@ use Rattle.hours.specs.Marks.{zone_by_marks}
 use Rattle.hours.specs.Reading.{read_refusal, needs_price}
 use Rattle.hours.specs.Opening.{book_open_refusal}
 use Rattle.hours.specs.Month.{HourRead, Sums}
-use Rattle.hours.specs.declared.prices.PriceSource.{Ghosts}
 use Rattle.hours.specs.declared.book.Reading.{Reading}
 use Rattle.hours.specs.declared.sums.Totals.{Totals}
 use Rattle.hours.specs.declared.whole.MonthRefused.{MonthRefused}
@@ -65,7 +64,3 @@ questions_from hours prices k (r ∷ rs) =
 -- none where the month's opening is refused
 abbrev pub month_questions : ℕ → List (List ℕ) → List ℕ → (ℕ → Option ℤ) → List Reading → List ℕ
 month_questions m marks sale prices rs = until_refused (book_open_refusal m marks sale) (questions_from (month_hours m) prices 0 rs)
-
--- what asking for the places, one after the other, makes of a source
-abbrev pub asked_for : {S : Type 0} → (G : Ghosts S) → ℕ → List ℕ → G.State → G.State
-asked_for G m places s = fold (λ a p. G.asked a m p) s places

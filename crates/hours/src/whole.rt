@@ -3,7 +3,8 @@ ghost use Rattle.std.specs.Prelude.{◌≡◌, [], IfOk, OnOk};
 ghost use Rattle.std.specs.Result.{result_err};
 ghost use Rattle.hours.specs.Month.{HasRead};
 ghost use Rattle.hours.specs.Reading.{hours_of};
-ghost use Rattle.hours.specs.Whole.{MonthSummed, asked_for, hours_from, month_questions, month_refusal, questions_from, refused_from};
+ghost use Rattle.hours.specs.Source.{asked_for};
+ghost use Rattle.hours.specs.Whole.{MonthSummed, hours_from, month_questions, month_refusal, questions_from, refused_from};
 
 use crate::book::{Book, Reading, Tariff};
 use crate::prices::PriceSource;

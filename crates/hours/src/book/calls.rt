@@ -1,5 +1,6 @@
 // Opening a book, reading hours into it and finishing it.
-ghost use Rattle.std.specs.Prelude.{◌≡◌, ◌+◌, ◌*◌, ◌<◌, ◌≤◌, true, List, [], IfOk, Some, None, Ok, Err, pos, neg_ℤ, ◌-ℤ◌};
+ghost use Rattle.std.specs.Prelude.{◌≡◌, ◌+◌, ◌*◌, ◌<◌, ◌≤◌, true, List, [], IfOk, Some, None, Ok, Err};
+ghost use Rattle.hours.specs.Balance.{balance, energy_given, energy_taken};
 ghost use Rattle.hours.specs.Price.{Ranged, positive};
 ghost use Rattle.hours.specs.Zones.{zone_number};
 ghost use Rattle.hours.specs.Bounds.{Bounded, Cheap};
@@ -30,11 +31,11 @@ impl Reading {
         self.import > 100_000 || self.export > 100_000
     }
 
-    // The difference import − export.
+    // The difference import − export. Neither is over 100,000 Wh, so it fits.
     fn balance(self) -> Balance
         requires import { self.import ≤ 100000 }
         requires export { self.export ≤ 100000 }
-        ensures { result.net ≡ pos self.import -ℤ pos self.export }
+        ensures { result.net ≡ balance self.import self.export }
     {
         Balance {
             net: self.import as i32 - self.export as i32,
@@ -43,16 +44,16 @@ impl Reading {
 }
 
 impl Balance {
-    // The energy taken: a negative difference counts as 0.
+    // The energy taken: a positive difference, else 0.
     fn taken(self) -> u32
-        ensures { result ≡ positive self.net }
+        ensures { result ≡ energy_taken self.net }
     {
         self.net.max(0) as u32
     }
 
-    // The energy given: a positive one does.
+    // The energy given: the size of a negative one, else 0.
     fn given(self) -> u32
-        ensures { result ≡ positive (neg_ℤ self.net) }
+        ensures { result ≡ energy_given self.net }
     {
         self.net.min(0).unsigned_abs()
     }
@@ -90,7 +91,7 @@ impl Terms {
         ensures { elim result [ Some z ↦ (place < hours_of self.now) × (zone_number z ≡ zone_at self.now place) | None ↦ hours_of self.now ≤ place ] }
     {
         let hour = self.month.hour_at(place)?;
-        Some(self.marks.zone(hour.weekend, hour.clock))
+        self.marks.zone(hour.weekend, hour.clock)
     }
 }
 

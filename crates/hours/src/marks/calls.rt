@@ -1,8 +1,7 @@
 // Packing the marks of a tariff, and finding the zone of an hour in them.
-ghost use Rattle.std.specs.Prelude.{◌≡◌, ◌*◌, ◌<◌, ◌&&◌, [], false, IfOk, Ok, Err, cond, length, slice_index, slice_index_or};
-ghost use Rattle.hours.specs.Marks.{RowNamed, each_zone, rows_of, zone_kept};
+ghost use Rattle.std.specs.Prelude.{◌≡◌, ◌*◌, ◌&&◌, [], false, IfOk, Some, None, Ok, Err, cond, length, nat_lt, slice_index_or};
+ghost use Rattle.hours.specs.Marks.{MarkedBy, RowNamed, each_zone, zone_kept};
 ghost use Rattle.hours.specs.Packed.{Coded, packed};
-ghost use Rattle.hours.specs.Zones.{zone_number};
 
 use crate::marks::Marks;
 use crate::zones::Zone;
@@ -38,7 +37,7 @@ fn pack(zones: [Zone; 24]) -> u64
 impl Marks {
     // The marks of two rows, of a working day and of a Saturday or Sunday; 11 where a mark names no zone.
     pub fn new(rows: [[u8; 24]; 2]) -> Result<Marks, BookFault>
-        ensures { elim result [ Ok m ↦ rows_of m ≡ rows | Err f ↦ (f ≡ BookFault.MarkOutOfRange) × ((each_zone (slice_index_or rows 0 []) && each_zone (slice_index_or rows 1 [])) ≡ false) ] }
+        ensures { elim result [ Ok m ↦ MarkedBy m rows | Err f ↦ (f ≡ BookFault.MarkOutOfRange) × ((each_zone (slice_index_or rows 0 []) && each_zone (slice_index_or rows 1 [])) ≡ false) ] }
     {
         Ok(Marks {
             working: pack(zones_of(&rows[0])?),
@@ -46,13 +45,14 @@ impl Marks {
         })
     }
 
-    // The zone of a clock hour of a working day, or of a Saturday or Sunday.
-    pub fn zone(self, weekend: bool, clock: u8) -> Zone
-        requires { clock < 24 }
-        ensures value { result ≡ zone_kept self weekend clock }
-        ensures marked { zone_number result ≡ slice_index (slice_index_or (rows_of self) (cond weekend 1 0) []) clock }
+    // The zone of a clock hour of a working day, or of a Saturday or Sunday; none past 23.
+    pub fn zone(self, weekend: bool, clock: u8) -> Option<Zone>
+        ensures value { result ≡ cond (nat_lt clock 24) (Some (zone_kept self weekend clock)) None }
     {
+        if clock >= 24 {
+            return None;
+        }
         let row = if weekend { self.weekend } else { self.working };
-        Zone::of_bits(row >> (2 * clock) & 3)
+        Some(Zone::of_bits(row >> (2 * clock) & 3))
     }
 }

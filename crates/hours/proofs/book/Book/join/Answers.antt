@@ -1,8 +1,9 @@
 use Rattle.std.proofs.Common.{◌≡◌, ◌-◌, None, neg_ℤ, sym, ap, ◌∙◌, rules}
 use Rattle.std.proofs.lemmas.Option.{none-some}
-use Rattle.hours.specs.Price.{positive, worth}
+use Rattle.hours.specs.Balance.{balance, energy_given, energy_taken}
+use Rattle.hours.specs.Price.{worth}
 use Rattle.hours.specs.Reading.{joined_at, read_refusal, hours_of}
-use Rattle.hours.proofs.Balance.{net_taken, net_given}
+use Rattle.hours.proofs.Balance.{taken_is, given_is}
 use Rattle.hours.proofs.History.{accepted, joins}
 use Rattle.hours.proofs.book.Book.join.Goals as goal
 use Rattle.hours.proofs.book.Book.join.Goals.{in-Some, in-None-2}
@@ -15,8 +16,8 @@ returns-clause-tally c =
     let e = c.args.reading.export in
     let value : c.add_hour.new.self ≡ joined_at t y i e c.match-price.rate =
     let z = c.requires.zone.zone in
-    let taken : c.taken.result ≡ i - e = c.taken.ensures ∙ ap positive c.balance-balance.ensures ∙ net_taken i e in
-    let given : c.given.result ≡ e - i = c.given.ensures ∙ ap (λ n. positive (neg_ℤ n)) c.balance-balance.ensures ∙ net_given i e in
+    let taken : c.taken.result ≡ energy_taken (balance i e) = c.taken.ensures ∙ ap energy_taken c.balance-balance.ensures in
+    let given : c.given.result ≡ energy_given (balance i e) = c.given.ensures ∙ ap energy_given c.balance-balance.ensures in
     search rules in
     let none : read_refusal (hours_of t) y.hours i e c.args.price ≡ None = elim c.match-price.branch [
       | in-Some w ↦ accepted t y i e _ c.args.price c.requires.zone (λ q. absurd (none-some _ (sym q ∙ w.in-Some.is)))
