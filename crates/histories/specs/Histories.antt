@@ -1,4 +1,4 @@
--- Histories: the list of calls since an opening, refused ones among them, each with its arguments and answer; the newest first.
+-- Histories: the list of calls that a machine has had, refused ones among them, each with its arguments and answer; the newest first.
 use Rattle.std.specs.Prelude.{◌≡◌, List, [], ◌∷◌, Some, None, Ok, Err, Result}
 use Rattle.histories.specs.Machines.{Machine}
 

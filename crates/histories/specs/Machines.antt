@@ -1,7 +1,7 @@
 -- Machines: by which fault a call is refused, what it answers otherwise, and what it makes of a state.
 use Rattle.std.specs.Prelude.{Bool, cond, Some, None, Ok, Err, Option, Result}
 
--- a call, on a store or an account, asks for this, and is otherwise refused by the fault
+-- a call asks for this first, or is refused by the fault, and then for the rest
 abbrev pub asks : {F : Type 0} → Bool → F → Option F → Option F
 asks holds fault rest = cond holds rest (Some fault)
 
@@ -20,9 +20,11 @@ pub record Machine (O C : Type 0) (Answer : C → Type 0) (S F : Type 0) : Type 
   -- for what it may be opened, and the state right after that
   pub Opens : O → Type 0
   pub opening : O → S
-  -- the calls that may be accepted later
+  -- the calls that may be accepted later; an opening is none of them, since it begins anew
   pub Follows : C → Type 0
+  -- by which fault a call is refused at a state, if by any
   pub refusal : C → S → Option F
+  -- what it answers there otherwise, and which state it makes of that one
   pub answer : (call : C) → S → Answer call
   pub after : C → S → S
 

@@ -1,4 +1,4 @@
--- Histories are never empty talk: every list of calls has one, and it decides where the machine stands.
+-- Every list of calls has a history, and a history decides where the machine stands.
 use Rattle.std.specs.Prelude.{◌≡◌, List, [], ◌∷◌, ◌++◌, map}
 use Rattle.histories.specs.Machines.{Machine}
 use Rattle.histories.specs.Histories.{Event, call_of, Had}
