@@ -4,7 +4,7 @@ use Rattle.faults.specs.declared.AccountFault.{AccountFault}
 use Rattle.hours.specs.declared.sums.MonthSums.{MonthSums}
 use Rattle.settlement.specs.declared.answers.Returned.{Returned}
 use Rattle.settlement.specs.declared.states.MonthState.{MonthState}
-use Rattle.ledger.specs.Calls.{answers, becomes}
+use Rattle.histories.specs.Machines.{answers, becomes}
 use Rattle.settlement.specs.Steps.{hands_back}
 
 pub refused : {V X : Type 0} (o : Option AccountFault) (fault : AccountFault) (v : MonthState) (w : V) (r : Result V AccountFault) (new old : X) →

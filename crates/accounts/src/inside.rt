@@ -5,7 +5,7 @@ ghost use Rattle.faults.specs.declared.AccountFault.TheVariants.{MonthOutOfRange
 ghost use Rattle.portions.specs.Sums.{sum};
 ghost use Rattle.ledger.specs.Ledger.{opening};
 ghost use Rattle.ledger.specs.Steps.{entering, takings, drawing, turning, refunds, losses};
-ghost use Rattle.ledger.specs.Calls.{answers, asks};
+ghost use Rattle.histories.specs.Machines.{answers, asks};
 ghost use Rattle.store.specs.Held.{room};
 ghost use Rattle.store.specs.Reading.{kind_of, ledger_of};
 ghost use Rattle.store.specs.Slots.{Accounted};

@@ -8,7 +8,7 @@ use Rattle.faults.specs.declared.ProgramFault.{ProgramFault}
 use Rattle.faults.specs.declared.ProgramFault.TheVariants.{InAccount}
 use Rattle.hours.specs.declared.sums.MonthSums.{MonthSums}
 use Rattle.settlement.specs.declared.answers.Returned.{Returned}
-use Rattle.ledger.specs.Calls.{answers, becomes}
+use Rattle.histories.specs.Machines.{answers, becomes}
 use Rattle.settlement.specs.Steps.{hands_back}
 use Rattle.answers.specs.Said.{Said}
 use Rattle.answers.specs.Said.Said.{nothing, settled, paid}

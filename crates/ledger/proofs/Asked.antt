@@ -4,7 +4,8 @@ use Rattle.std.proofs.lemmas.Bool.{leb-true, ltb-true, not-true}
 use Rattle.faults.specs.declared.StoreFault.{StoreFault}
 use Rattle.ledger.specs.Kinds.{Kind}
 use Rattle.ledger.specs.Ledger.{Ledger, has}
-use Rattle.ledger.specs.Calls.{asks, open_refusal, enter_refusal, draw_refusal, turn_refusal}
+use Rattle.histories.specs.Machines.{asks}
+use Rattle.ledger.specs.Calls.{open_refusal, enter_refusal, draw_refusal, turn_refusal}
 
 -- an accepted call met all that it was asked
 pub asked : (b : Bool) (e : StoreFault) (o : Option StoreFault) → asks b e o ≡ None → (b ≡ true) × (o ≡ None)

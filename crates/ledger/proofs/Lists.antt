@@ -58,6 +58,7 @@ module _ {T : Type 0} where
   UpTo m [] = Unit {0}
   UpTo m (p ∷ ps) = (p.month ≤ m) × UpTo m ps
 
+  -- the months of all portions are below m
   abbrev pub Before : ℕ → List (Portion T) → Type 0
   Before m [] = Unit {0}
   Before m (p ∷ ps) = (p.month < m) × Before m ps

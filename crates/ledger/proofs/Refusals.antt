@@ -6,7 +6,8 @@ use Rattle.faults.specs.Numbers.{store_number}
 use Rattle.portions.specs.Portions.{Portion}
 use Rattle.ledger.specs.Kinds.{Kind}
 use Rattle.ledger.specs.Ledger.{Ledger, has}
-use Rattle.ledger.specs.Calls.{asks, open_refusal}
+use Rattle.histories.specs.Machines.{asks}
+use Rattle.ledger.specs.Calls.{open_refusal}
 use Rattle.ledger.specs.Calls.Call.{open_for, enter, draw, turn}
 use Rattle.histories.specs.Histories.Event.{did, refused}
 use Rattle.histories.proofs.Runs.{always}

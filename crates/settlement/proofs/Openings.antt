@@ -5,7 +5,7 @@ use Rattle.faults.specs.declared.AccountFault.{AccountFault}
 use Rattle.faults.specs.declared.AccountFault.TheVariants.{InStore, MonthOutOfRange}
 use Rattle.faults.specs.declared.StoreFault.TheVariants.{TooFewSlots}
 use Rattle.faults.specs.Numbers.{account_number}
-use Rattle.ledger.specs.Calls.{asks}
+use Rattle.histories.specs.Machines.{asks}
 use Rattle.settlement.specs.Table.{period_of}
 use Rattle.settlement.specs.Accounts.{Workings}
 use Rattle.settlement.specs.History.{History, Had}

@@ -9,7 +9,7 @@ use Rattle.faults.specs.declared.StoreFault.TheVariants.{LastMonth}
 use Rattle.faults.specs.Numbers.{account_number}
 use Rattle.histories.specs.Histories.Event.{did, refused}
 use Rattle.histories.proofs.Runs.{always}
-use Rattle.ledger.specs.Calls.{asks}
+use Rattle.histories.specs.Machines.{asks}
 use Rattle.settlement.specs.declared.standing.Standing.{Standing}
 use Rattle.settlement.specs.declared.states.MonthState.{MonthState}
 use Rattle.settlement.specs.declared.states.MonthState.TheVariants.{Waiting, Entered, Settled}

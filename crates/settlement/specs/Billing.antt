@@ -8,7 +8,7 @@ use Rattle.portions.specs.Sums.{sum}
 use Rattle.ledger.specs.Rules.{Rule}
 use Rattle.ledger.specs.Ledger as ledger
 use Rattle.ledger.specs.Ledger.{Ledger, lefts}
-use Rattle.ledger.specs.Calls.{asks}
+use Rattle.histories.specs.Machines.{asks}
 use Rattle.ledger.specs.Steps.{takings, drawing, entering, turning, refunds, losses}
 use Rattle.settlement.specs.declared.answers.Line.{Line}
 use Rattle.settlement.specs.declared.answers.Payment.{Payment}

@@ -7,7 +7,7 @@ use Rattle.faults.specs.declared.AccountFault.TheVariants.{InStore, NotOpen, Oth
 use Rattle.faults.specs.declared.StoreFault.{StoreFault}
 use Rattle.faults.specs.declared.StoreFault.TheVariants as store
 use Rattle.faults.specs.declared.StoreFault.TheVariants.{LastMonth}
-use Rattle.ledger.specs.Calls.{asks}
+use Rattle.histories.specs.Machines.{asks}
 use Rattle.settlement.specs.declared.standing.Standing.{Standing}
 use Rattle.settlement.specs.declared.states.Call.{Call}
 use Rattle.settlement.specs.declared.states.Call.TheVariants.{Enter, Settle, Turn}

@@ -2,7 +2,7 @@
 ghost use Rattle.std.specs.Prelude.{◌≡◌};
 ghost use Rattle.settlement.specs.declared.states.MonthState.TheVariants as state;
 ghost use Rattle.settlement.specs.declared.standing.Standing.{Standing};
-ghost use Rattle.ledger.specs.Calls.{answers};
+ghost use Rattle.histories.specs.Machines.{answers};
 ghost use Rattle.settlement.specs.Table.{table};
 ghost use Rattle.settlement.specs.Standing.{enter_refusal, settle_refusal, stores_turn_refusal, turn_refusal};
 

@@ -1,7 +1,7 @@
 -- A call that was accepted was refused by nothing.
 use Rattle.std.proofs.Common.{◌≡◌, ℕ, Some, None, Ok, Option, refl, arith}
 use Rattle.faults.specs.declared.StoreFault.{StoreFault}
-use Rattle.ledger.specs.Calls.{answers}
+use Rattle.histories.specs.Machines.{answers}
 
 pub accepted : {V : Type 0} (o : Option StoreFault) (v w : V) → Ok w ≡ answers o v → o ≡ None
 accepted None v w e = refl

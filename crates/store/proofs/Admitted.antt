@@ -5,7 +5,8 @@ use Rattle.faults.specs.declared.StoreFault.TheVariants.{MonthTaken}
 use Rattle.portions.specs.Portions.{Portion, fresh}
 use Rattle.portions.specs.Made.{made}
 use Rattle.ledger.specs.Ledger.{Ledger, has}
-use Rattle.ledger.specs.Calls.{answers, enter_refusal}
+use Rattle.histories.specs.Machines.{answers}
+use Rattle.ledger.specs.Calls.{enter_refusal}
 
 module _ {T : Type 0} (m a : ℕ) (t : T) (v : Portion T) (h : Ok v ≡ made m a t) where
   made_small : leb a 100000000 ≡ true

@@ -7,11 +7,11 @@ use Rattle.portions.specs.declared.Kind.{Ghosts}
 use Rattle.portions.specs.Portions.{Portion, less}
 use Rattle.portions.specs.Slots.{reads, plain}
 use Rattle.portions.specs.Totals.{total_map}
-use Rattle.histories.specs.Machines.{gives, leaves}
+use Rattle.histories.specs.Machines.{gives, leaves, answers, becomes}
 use Rattle.ledger.specs.Calls.Call.{draw}
 use Rattle.ledger.specs.Rules.{Rule, LawfulRule}
 use Rattle.ledger.specs.Ledger.{has, left_in, lefts}
-use Rattle.ledger.specs.Calls.{draw_refusal, answers, becomes}
+use Rattle.ledger.specs.Calls.{draw_refusal}
 use Rattle.ledger.specs.Steps.{machine, taking, takings, drawing}
 use Rattle.ledger.proofs.Asked.{draw_met}
 use Rattle.ledger.proofs.Store.{Few}

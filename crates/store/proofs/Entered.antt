@@ -6,10 +6,10 @@ use Rattle.portions.specs.declared.Kind.{Ghosts}
 use Rattle.portions.specs.Portions.{Portion, fresh}
 use Rattle.portions.specs.Slots.{reads, plain}
 use Rattle.portions.specs.Totals.{total_push}
-use Rattle.histories.specs.Machines.{leaves}
+use Rattle.histories.specs.Machines.{leaves, becomes}
 use Rattle.ledger.specs.Calls.Call.{enter}
 use Rattle.ledger.specs.Ledger.{has, left_in}
-use Rattle.ledger.specs.Calls.{enter_refusal, becomes}
+use Rattle.ledger.specs.Calls.{enter_refusal}
 use Rattle.ledger.specs.Steps.{machine, entering}
 use Rattle.ledger.proofs.Asked.{EnterMet}
 use Rattle.store.specs.declared.Store.{Store}

@@ -4,10 +4,10 @@ use Rattle.std.proofs.lemmas.Bool.{cases_Bool}
 use Rattle.portions.specs.declared.Kind.{Ghosts}
 use Rattle.portions.specs.Portions.{Portion}
 use Rattle.portions.specs.Slots.{reads, plain}
-use Rattle.histories.specs.Machines.{gives, leaves}
+use Rattle.histories.specs.Machines.{gives, leaves, answers, becomes}
 use Rattle.ledger.specs.Calls.Call.{turn}
 use Rattle.ledger.specs.Ledger.{has, left_in}
-use Rattle.ledger.specs.Calls.{turn_refusal, answers, becomes}
+use Rattle.ledger.specs.Calls.{turn_refusal}
 use Rattle.ledger.specs.Steps.{machine, stays_in, refunds, losses, turning}
 use Rattle.ledger.proofs.Asked.{TurnMet, turn_met}
 use Rattle.store.specs.declared.Store.{Store}

@@ -28,7 +28,7 @@ module _ {K T : Type 0} {k : Ghosts K T} where
   module _ (s s' : Store K T k) where
     -- after a call that may follow an opening
     pub stays : (call : Call T) → Follows call → (r : Result (Answer call) StoreFault) → r ≡ gives (machine (kind_of k)) call (ledger_of k s) → ledger_of k s' ≡ leaves (machine (kind_of k)) call (ledger_of k s) →
-        Accounted (is_ok r) s s' → StaysAsLent s (event call r) s'
+        Accounted (is_ok r) s s' → StaysAsLent s call r s'
     stays call follows r told moved accounted slots h was =
         let shut = never_opened (kind_of k) (event call r ∷ h) (ledger_of k s') (ledger_of k s, was.shut.had, does (machine (kind_of k)) (ledger_of k s) (ledger_of k s') call follows r told moved) in
         record { shut = shut; slots_as_lent = same r accounted.kept shut ∙ was.slots_as_lent }

@@ -1,11 +1,13 @@
 -- Before an opening: a store tells no portion, refuses everything but an opening by 1, and holds the slots as they were lent.
 use Rattle.std.specs.Prelude.{◌≡◌, ℕ, List, Result}
 use Rattle.faults.specs.declared.StoreFault.{StoreFault}
+use Rattle.histories.specs.Histories.{event}
 use Rattle.histories.specs.Unopened.{Carries, OpenCarries}
 use Rattle.portions.specs.declared.Slot.{Slot}
 use Rattle.portions.specs.declared.Kind.{Ghosts}
+use Rattle.ledger.specs.Calls.{Call, Answer}
 use Rattle.ledger.specs.Calls.Call.{open_for}
-use Rattle.ledger.specs.History.{Event, History}
+use Rattle.ledger.specs.History.{History}
 use Rattle.ledger.specs.Unopened.{NeverOpened}
 use Rattle.store.specs.declared.Store.{Store}
 use Rattle.store.specs.Held.{lent, room}
@@ -20,8 +22,8 @@ module _ {K T : Type 0} {k : Ghosts K T} where
     pub slots_as_lent : lent s ≡ slots
 
   -- a call leaves all that so: whatever calls the store has had before
-  abbrev pub StaysAsLent : Store K T k → Event T → Store K T k → Type 0
-  StaysAsLent before event after = (slots : List Slot) → Carries (AsLent slots) before event after
+  abbrev pub StaysAsLent : Store K T k → (call : Call T) → Result (Answer call) StoreFault → Store K T k → Type 0
+  StaysAsLent before call result after = (slots : List Slot) → Carries (AsLent slots) before (event call result) after
 
   -- and so does an opening that is refused
   abbrev pub OpenStaysAsLent : Store K T k → ℕ → Result (Unit {0}) StoreFault → Store K T k → Type 0

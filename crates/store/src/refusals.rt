@@ -2,7 +2,8 @@ ghost use Rattle.std.specs.Prelude.{◌≡◌, None, nat_lt};
 ghost use Rattle.faults.specs.declared.StoreFault.TheVariants.{TooFewSlots};
 ghost use Rattle.portions.specs.Made.{answered};
 ghost use Rattle.portions.specs.Portions.{fresh};
-ghost use Rattle.ledger.specs.Calls.{answers, asks, open_refusal, enter_refusal, draw_refusal, turn_refusal};
+ghost use Rattle.histories.specs.Machines.{answers, asks};
+ghost use Rattle.ledger.specs.Calls.{open_refusal, enter_refusal, draw_refusal, turn_refusal};
 ghost use Rattle.store.specs.Held.{room};
 ghost use Rattle.store.specs.Reading.{kind_of, ledger_of};
 

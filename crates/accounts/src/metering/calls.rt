@@ -1,7 +1,6 @@
 ghost use Rattle.std.specs.Prelude.{◌≡◌, length, is_ok};
 ghost use Rattle.settlement.specs.Table.{period_of};
-ghost use Rattle.ledger.specs.Calls.{answers};
-ghost use Rattle.histories.specs.Machines.{gives, leaves};
+ghost use Rattle.histories.specs.Machines.{gives, leaves, answers};
 ghost use Rattle.histories.specs.Histories.{event};
 ghost use Rattle.settlement.specs.Accounts.{machine};
 ghost use Rattle.settlement.specs.Accounts.Call.{open_for, enter, settle, turn};

@@ -3,7 +3,8 @@
 ghost use Rattle.std.specs.Prelude.{◌≡◌, ◌+◌, ◌<◌, ◌≤◌, true, Ok, length};
 ghost use Rattle.portions.specs.Listed.{listed};
 ghost use Rattle.ledger.specs.Ledger.{lefts, opening};
-ghost use Rattle.ledger.specs.Calls.{answers, turn_refusal};
+ghost use Rattle.histories.specs.Machines.{answers};
+ghost use Rattle.ledger.specs.Calls.{turn_refusal};
 ghost use Rattle.ledger.specs.Steps.{entering, turning, refunds, losses};
 ghost use Rattle.settlement.specs.Kinds.{energy};
 ghost use Rattle.settlement.specs.Zones.{all, each, each_two};

@@ -1,6 +1,6 @@
 use Rattle.std.proofs.Common.{length, is_ok, ap, ◌∙◌, subst, arith}
 use Rattle.ledger.specs.Ledger.{Ledger}
-use Rattle.ledger.specs.Calls.{becomes}
+use Rattle.histories.specs.Machines.{becomes}
 use Rattle.ledger.specs.Steps.{takings, drawing}
 use Rattle.store.specs.Reading.{ledger_of}
 use Rattle.store.specs.Slots.{Accounted}

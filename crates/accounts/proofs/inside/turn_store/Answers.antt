@@ -1,5 +1,5 @@
 use Rattle.std.proofs.Common.{ap, ◌∙◌}
-use Rattle.ledger.specs.Calls.{becomes}
+use Rattle.histories.specs.Machines.{becomes}
 use Rattle.ledger.specs.Steps.{turning}
 use Rattle.store.specs.Reading.{kind_of, ledger_of}
 use Rattle.accounts.proofs.Facts.{turned_free}

@@ -3,7 +3,7 @@ use Rattle.portions.specs.Listed.{listed}
 use Rattle.store.proofs.Lawful.{lawful_rule}
 use Rattle.settlement.specs.Zones.{all, each, each_two}
 use Rattle.settlement.specs.declared.states.MonthState.TheVariants.{Waiting, Settled}
-use Rattle.ledger.specs.Calls.{answers, becomes}
+use Rattle.histories.specs.Machines.{answers, becomes}
 use Rattle.settlement.specs.Lines.{written}
 use Rattle.settlement.specs.Accounts.{refusal}
 use Rattle.settlement.specs.Accounts.Call.{settle}
