@@ -59,6 +59,10 @@ deposit_for value = (value * 123 + 50000000) / 100000000
 abbrev pub cap_for : ℕ → ℕ → ℕ
 cap_for percentage value = value * percentage / 100000000
 
+-- the bill for a charge, in whole grosz
+abbrev pub bill_for : ℕ → ℕ
+bill_for charge = (charge + 500000) / 1000000
+
 -- the deposit of a month's sums
 abbrev pub month_deposit : MonthSums → ℕ
 month_deposit sums = deposit_for sums.totals.value
@@ -67,9 +71,9 @@ month_deposit sums = deposit_for sums.totals.value
 abbrev pub month_cap : ℕ → MonthSums → ℕ
 month_cap percentage sums = cap_for percentage sums.totals.value
 
--- the bill: the charge, in whole grosz
+-- the bill of a month's sums
 abbrev pub month_bill : MonthSums → ℕ
-month_bill sums = (sums.totals.charge + 500000) / 1000000
+month_bill sums = bill_for sums.totals.charge
 
 -- after an accepted enter: a deposit of the month, and its bill
 abbrev pub entering_bill : MonthSums → BillAccount → BillAccount
