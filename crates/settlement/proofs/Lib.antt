@@ -2,6 +2,7 @@ mod ByZone
 pub mod Tables
 mod Rightly
 mod Openings
+pub mod Unopened
 pub mod Cover
 pub mod Decided
 mod Trace

@@ -52,7 +52,8 @@ pub record Workings (O A S Z T : Type 0) : Type 1 where
   -- its stores' kind, and the fewest lines that a settlement asks for
   pub kind : Kind T
   pub fewest_lines : ℕ
-  -- which openings are refused, and when a number applies to one
+  -- the account before an opening, which openings are refused, and when a number applies to one
+  pub closed : A
   pub open_refusal : O → Option AccountFault
   pub Applies : O → ℕ → Type 0
   -- for which month one is, with which months a period ends, and the account right after it

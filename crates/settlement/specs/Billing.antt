@@ -114,6 +114,7 @@ billing = record {
   pending = λ b z. b.bill;
   kind = deposit;
   fewest_lines = 13;
+  closed = closed;
   open_refusal = open_refusal;
   Applies = Applies;
   own_month = λ o. o.month;

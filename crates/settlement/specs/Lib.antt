@@ -17,6 +17,7 @@ pub mod Settled
 pub mod Decided
 pub mod Turned
 pub mod Best
+pub mod Unopened
 pub mod Promises
 pub mod Metering
 pub mod Billing

@@ -196,6 +196,7 @@ metering = record {
   pending = λ a z. of z a.pending;
   kind = energy;
   fewest_lines = 39;
+  closed = closed;
   open_refusal = open_refusal;
   Applies = Applies;
   own_month = λ o. o.month;

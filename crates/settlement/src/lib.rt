@@ -11,6 +11,8 @@ ghost use Rattle.settlement.specs.Rounding.{RoundsMoney};
 ghost use Rattle.settlement.specs.Ending.{EndsPortions};
 ghost use Rattle.settlement.specs.Year.{EndsPeriods};
 ghost use Rattle.settlement.specs.Tenths.{GivesTenths};
+ghost use Rattle.histories.specs.Unopened.{UnopenedHaveHistories};
+ghost use Rattle.settlement.specs.Unopened.{ShutUntilOpened};
 
 mod answers;
 mod standing;
@@ -55,6 +57,18 @@ pub fn histories_decide()
 pub fn beginnings_are_histories()
     ensures metering { BeginningsAreHistories (machine metering) }
     ensures billing { BeginningsAreHistories (machine billing) }
+{}
+
+// An account that was never opened tells no portion and has refused every call, all but openings by 1.
+pub fn shut_until_opened()
+    ensures metering { ShutUntilOpened metering }
+    ensures billing { ShutUntilOpened billing }
+{}
+
+// Every list of calls that it refuses has a history.
+pub fn unopened_have_histories()
+    ensures metering { UnopenedHaveHistories (machine metering) metering.closed }
+    ensures billing { UnopenedHaveHistories (machine billing) billing.closed }
 {}
 
 // Bills and deposits are rounded to the nearest grosz, and caps down.
