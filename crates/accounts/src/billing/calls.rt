@@ -132,4 +132,18 @@ impl<'a> Billing<'a> {
         self.state = next;
         Ok(ended)
     }
+
+    // Ends the account and hands the slots back.
+    pub fn close(self) -> &'a mut [Slot]
+        ensures slots { result.now ≡ lent self.entry.store }
+        ensures lender { result.ghost_name ≡ self.entry.store.rows.slots.ghost_name }
+    {
+        let Billing {
+            store,
+            bill: _,
+            percentage: _,
+            state: _,
+        } = self;
+        store.close()
+    }
 }

@@ -151,4 +151,25 @@ impl<'a> Metering<'a> {
         self.state = next;
         Ok(ended)
     }
+
+    // Ends the account and hands the slots of each zone's store back.
+    pub fn close(self) -> Zones<&'a mut [Slot]>
+        ensures first { (result.one.now ≡ lent self.entry.meters.stores.one) × (result.one.ghost_name ≡ self.entry.meters.stores.one.rows.slots.ghost_name) }
+        ensures second { (result.two.now ≡ lent self.entry.meters.stores.two) × (result.two.ghost_name ≡ self.entry.meters.stores.two.rows.slots.ghost_name) }
+        ensures third { (result.three.now ≡ lent self.entry.meters.stores.three) × (result.three.ghost_name ≡ self.entry.meters.stores.three.rows.slots.ghost_name) }
+    {
+        let Metering {
+            meters,
+            coefficient: _,
+            period: _,
+            state: _,
+        } = self;
+        let Meters { stores, pending: _ } = meters;
+        let Zones { one, two, three } = stores;
+        Zones {
+            one: one.close(),
+            two: two.close(),
+            three: three.close(),
+        }
+    }
 }
