@@ -1,4 +1,4 @@
-// Worked figures of draw rules and stores.
+// Worked figures of draw rules, and of a draw on a store.
 use crate::Figure;
 use faults::StoreFault;
 use portions::amounts::Amounts;
@@ -60,38 +60,8 @@ fn draw_invoice(store: &mut Store<Energy>) -> Result<u64, StoreFault> {
     store.draw(&OldestFirst, 2_507_500)
 }
 
-// A portion's end: the month that it was last open in, None where it ended early, and what is lost with the next turn.
-#[derive(Clone, Copy)]
-struct End {
-    last: Option<u16>,
-    lost: u64,
-}
-
-impl End {
-    fn told(self, heap: Global) -> Result<String, AllocError> {
-        let lost = self.lost;
-        match self.last {
-            Some(last) => format!(in heap; "open in {last}, then {lost} lost"),
-            None => format!(in heap; "ended early, then {lost} lost"),
-        }
-    }
-}
-
-// A portion of month 75, turned until it ends.
-fn outlive(store: &mut Store<Energy>) -> Result<End, StoreFault> {
-    store.open(75)?;
-    store.enter(1000, ())?;
-    // Twelve turns: a count, and no index.
-    for _ in 0..12 {
-        store.turn()?;
-    }
-    let last = (store.count() == 1).then_some(store.month());
-    let (_, lost) = store.turn()?;
-    Ok(End { last, lost })
-}
-
-// What a store of energy answers.
-fn show_stores(rt: &HostRuntime) -> anyhow::Result<()> {
+// The invoice's draw, and how many portions are open after it.
+fn show_invoice(rt: &HostRuntime) -> anyhow::Result<()> {
     let mut slots = [Slot::default(); 13];
     let mut store: Store<Energy> = Store::over(&mut slots);
     let got = match draw_invoice(&mut store) {
@@ -101,15 +71,6 @@ fn show_stores(rt: &HostRuntime) -> anyhow::Result<()> {
     Figure {
         name: "six portions of an invoice",
         expected: "2461000 used, 6 open",
-    }
-    .show(rt, got.as_str())?;
-    let got = match outlive(&mut store) {
-        Ok(end) => end.told(rt.alloc())?,
-        Err(fault) => format!(in rt.alloc(); "refused by {}", fault.number())?,
-    };
-    Figure {
-        name: "a portion of month 75",
-        expected: "open in 87, then 1000 lost",
     }
     .show(rt, got.as_str())
 }
@@ -189,5 +150,5 @@ fn show_dated(rt: &HostRuntime) -> anyhow::Result<()> {
 pub(crate) fn show_draws(rt: &HostRuntime) -> anyhow::Result<()> {
     show_proportional(rt)?;
     show_dated(rt)?;
-    show_stores(rt)
+    show_invoice(rt)
 }

@@ -2,9 +2,12 @@
 #![tactic(auto)]
 
 mod draws;
+mod ends;
 mod months;
+mod openings;
 mod settlements;
 mod statements;
+mod sums;
 
 // A figure: its name, and what it should be.
 #[derive(Clone, Copy)]
@@ -27,5 +30,7 @@ fn main(rt: HostRuntime) -> anyhow::Result<()> {
     statements::figures_hold();
     months::show_months(&rt)?;
     draws::show_draws(&rt)?;
+    ends::show_ends(&rt)?;
+    openings::show_openings_at_bounds(&rt)?;
     settlements::show_settlements(&rt)
 }
