@@ -1,7 +1,8 @@
 -- What one covering of a zone from a store does, and what the whole settlement therefore does.
-use Rattle.std.proofs.Common.{◌≡◌, ◌≢◌, ℕ, zero, suc, ◌+◌, ◌-◌, ◌*◌, ◌<◌, ◌≤◌, min, ◌⊎◌, List, [], ◌∷◌, ◌++◌, length, refl, ap, ◌∙◌, subst, inl, inr, arith, add-mul, rules, true, false, cond, leb}
+use Rattle.std.proofs.Common.{◌≡◌, ◌≢◌, ℕ, zero, suc, ◌+◌, ◌-◌, ◌*◌, ◌<◌, ◌≤◌, min, ◌⊎◌, List, [], ◌∷◌, ◌++◌, length, refl, ap, ◌∙◌, subst, inl, inr, arith, add-mul, rules}
 use native.Mathlib.Nat.{lt-div-mul-add, div-le_of_le-mul, div-mul-le_self, lt_of_mul-lt-mul_right}
 use Rattle.std.proofs.lemmas.Bool.{cases_lt}
+use Rattle.std.proofs.lemmas.Bool.Decides.{nat_tests}
 use Rattle.portions.specs.Sums.{sum}
 use Rattle.portions.specs.Portions.{Portion}
 use Rattle.ledger.specs.Rules.{Rule, LawfulRule}
@@ -16,10 +17,10 @@ use Rattle.settlement.specs.Metering.{coefficient_for, Course, wanted, covered, 
 use Rattle.settlement.proofs.ByZone.{of_put, put_relates}
 
 pub coefficient_low : (power : ℕ) → 7 ≤ coefficient_for power
-coefficient_low power = elim (leb power 10000) as (λ b. 7 ≤ cond b 8 7) [ true ↦ omega arith | false ↦ omega arith ]
+coefficient_low power = grind (arith, nat_tests)
 
 pub coefficient_high : (power : ℕ) → coefficient_for power ≤ 8
-coefficient_high power = elim (leb power 10000) as (λ b. cond b 8 7 ≤ 8) [ true ↦ omega arith | false ↦ omega arith ]
+coefficient_high power = grind (arith, nat_tests)
 
 pub wanted_serves : (c p : ℕ) → 0 < c → 10 * p ≤ wanted c p * c
 wanted_serves c p pos = let h = lt-div-mul-add {a = 10 * p + (c - 1)} {b = c} pos in omega (arith, h)

@@ -1,4 +1,4 @@
--- The laws of draws decide what a settlement covers: whatever draws keep them, the passes come to the same.
+-- The laws of coverings decide what a settlement does: whatever coverings keep them, the passes come to the same.
 use Rattle.std.proofs.Common.{◌≡◌, ◌≢◌, ℕ, zero, suc, ◌+◌, ◌-◌, ◌*◌, ◌<◌, ◌≤◌, min, cond, ◌⊎◌, List, [], ◌∷◌, ◌++◌, sym, refl, ap, ◌∙◌, subst, inl, inr, arith, rules}
 use Rattle.std.proofs.lemmas.Bool.{cases_lt}
 use Rattle.hours.specs.declared.zones.Zone.{Zone}
@@ -17,7 +17,7 @@ use Rattle.settlement.proofs.Coverings.{largest_is}
 use Rattle.settlement.proofs.Cover.{coefficient_low, wanted_serves, short_empties, wanted_least}
 
 -- what is not covered in each zone, and what is left in each store
-pub record Way : Type 0 where
+pub record Position : Type 0 where
   pub rests : Zones ℕ
   pub lefts : Zones ℕ
 
@@ -40,10 +40,10 @@ n32 : zone_number Third ≢ zone_number Second
 n32 = λ e. omega arith
 
 module _ (c : ℕ) (pos : 0 < c) where
-  abbrev pub uses : Zone → Zone → Way → ℕ
+  abbrev pub uses : Zone → Zone → Position → ℕ
   uses z s w = min (wanted c (of z w.rests)) (of s w.lefts)
 
-  abbrev pub step : Zone × Zone → Way → Way
+  abbrev pub step : Zone × Zone → Position → Position
   step pair w = record {
     rests = put pair.0 (of pair.0 w.rests - covered c (of pair.0 w.rests) (uses pair.0 pair.1 w)) w.rests;
     lefts = put pair.1 (of pair.1 w.lefts - uses pair.0 pair.1 w) w.lefts;
@@ -58,11 +58,11 @@ module _ (c : ℕ) (pos : 0 < c) where
   both : (f : ℕ → ℕ → ℕ) {x x' y y' : ℕ} → x ≡ x' → y ≡ y' → f x y ≡ f x' y'
   both f e g = cc
 
-  abbrev pub steps : List (Zone × Zone) → Way → Way
+  abbrev pub steps : List (Zone × Zone) → Position → Position
   steps [] w = w
   steps (pair ∷ pairs) w = steps pairs (step pair w)
 
-  abbrev pub Idle : Zone × Zone → Way → Type 0
+  abbrev pub Idle : Zone × Zone → Position → Type 0
   Idle pair w = (of pair.0 w.rests ≡ 0) ⊎ (of pair.1 w.lefts ≡ 0)
 
   put_same : {X : Type 0} (z : Zone) (x : X) (xs : Zones X) → x ≡ of z xs → put z x xs ≡ xs
@@ -73,30 +73,30 @@ module _ (c : ℕ) (pos : 0 < c) where
   wanted_zero : wanted c 0 ≡ 0
   wanted_zero = omega (arith, wanted_least c 0 0 pos (omega arith))
 
-  same_way : (r r' l l' : Zones ℕ) → r ≡ r' → l ≡ l' → ◌≡◌ {A = Way} (record { rests = r; lefts = l }) (record { rests = r'; lefts = l' })
-  same_way r r' l l' e f = cc
+  same_position : (r r' l l' : Zones ℕ) → r ≡ r' → l ≡ l' → ◌≡◌ {A = Position} (record { rests = r; lefts = l }) (record { rests = r'; lefts = l' })
+  same_position r r' l l' e f = cc
 
   no_use : (rest left : ℕ) → (rest ≡ 0) ⊎ (left ≡ 0) → min (wanted c rest) left ≡ 0
   no_use rest left (inl e) = let z = ap (wanted c) e ∙ wanted_zero in omega (arith, z)
   no_use rest left (inr e) = omega (arith, e)
 
   -- a pair that is idle does nothing
-  idle : (z s : Zone) (w : Way) → Idle (z, s) w → step (z, s) w ≡ w
+  idle : (z s : Zone) (w : Position) → Idle (z, s) w → step (z, s) w ≡ w
   idle z s w i =
       let none = no_use (of z w.rests) (of s w.lefts) i in
       let nothing : covered c (of z w.rests) 0 ≡ 0 = omega arith in
       let kept = ap (covered c (of z w.rests)) none ∙ nothing in
-      same_way _ w.rests _ w.lefts (put_same z _ w.rests (omega (arith, kept))) (put_same s _ w.lefts (omega (arith, none)))
+      same_position _ w.rests _ w.lefts (put_same z _ w.rests (omega (arith, kept))) (put_same s _ w.lefts (omega (arith, none)))
 
   -- after its step a pair is idle
-  spent : (z s : Zone) (w : Way) → Idle (z, s) (step (z, s) w)
+  spent : (z s : Zone) (w : Position) → Idle (z, s) (step (z, s) w)
   spent z s w =
       elim (cases_lt 0 (of z w.rests - covered c (of z w.rests) (uses z s w))) [
         | inl short ↦ inr (of_put s _ w.lefts ∙ (let le = short_empties c (of z w.rests) (of s w.lefts) pos short in omega (arith, le)))
         | inr le ↦ inl (of_put z _ w.rests ∙ omega (arith, le))
       ]
 
-  twice : (z s : Zone) (w : Way) → step (z, s) (step (z, s) w) ≡ step (z, s) w
+  twice : (z s : Zone) (w : Position) → step (z, s) (step (z, s) w) ≡ step (z, s) w
   twice z s w = idle z s (step (z, s) w) (spent z s w)
 
   put_put : {X : Type 0} (z z' : Zone) (x y : X) (xs : Zones X) → zone_number z ≢ zone_number z' → put z x (put z' y xs) ≡ put z' y (put z x xs)
@@ -106,7 +106,7 @@ module _ (c : ℕ) (pos : 0 < c) where
   of_other z z' y xs ne = search rules
 
   -- pairs of other zones and other stores do not meet
-  commute : (z s z' s' : Zone) (w : Way) → zone_number z ≢ zone_number z' → zone_number s ≢ zone_number s' → step (z, s) (step (z', s') w) ≡ step (z', s') (step (z, s) w)
+  commute : (z s z' s' : Zone) (w : Position) → zone_number z ≢ zone_number z' → zone_number s ≢ zone_number s' → step (z, s) (step (z', s') w) ≡ step (z', s') (step (z, s) w)
   commute z s z' s' w ne nf =
       let r = w.rests in
       let l = w.lefts in
@@ -120,18 +120,18 @@ module _ (c : ℕ) (pos : 0 < c) where
       let b = of_other s s' two l nf in
       let c' = of_other z' z three r ne' in
       let d = of_other s' s four l nf' in
-      same_way _ _ _ _
+      same_position _ _ _ _
       (ap (λ x. put z x (put z' one r)) (both rest_after a b) ∙ put_put z z' three one r ne ∙ sym (ap (λ x. put z' x (put z three r)) (both rest_after c' d)))
       (ap (λ x. put s x (put s' two l)) (both left_after a b) ∙ put_put s s' four two l nf ∙ sym (ap (λ x. put s' x (put s four l)) (both left_after c' d)))
 
   -- a pair that comes later among these, with only such before it as do not meet it or are idle, can as well come first
-  abbrev Meets : Zone × Zone → List (Zone × Zone) → Way → Type 0
+  abbrev Meets : Zone × Zone → List (Zone × Zone) → Position → Type 0
   Meets p [] w = ⊥
   Meets p (q ∷ qs) w =
       ((q.0 ≡ p.0) × (q.1 ≡ p.1))
       ⊎ (((zone_number q.0 ≢ zone_number p.0) × (zone_number q.1 ≢ zone_number p.1) × Meets p qs (step q w)) ⊎ (Idle q w × Idle q (step p w) × Meets p qs w))
 
-  absorbed : (p : Zone × Zone) (qs : List (Zone × Zone)) (w : Way) → Meets p qs w → steps qs (step p w) ≡ steps qs w
+  absorbed : (p : Zone × Zone) (qs : List (Zone × Zone)) (w : Position) → Meets p qs w → steps qs (step p w) ≡ steps qs w
   absorbed p [] w m = absurd m
   absorbed p (q ∷ qs) w (inl e) =
       let is : q ≡ p = ap (λ x. (x, q.1)) e.0 ∙ ap (λ y. (p.0, y)) e.1 in
@@ -140,13 +140,13 @@ module _ (c : ℕ) (pos : 0 < c) where
   absorbed p (q ∷ qs) w (inr (inr m)) = ap (steps qs) (idle q.0 q.1 (step p w) m.1) ∙ absorbed p qs w m.2 ∙ sym (ap (steps qs) (idle q.0 q.1 w m.0))
 
   -- a zone has its turn at another's store
-  pub record Turn (z s : Zone) (w : Way) : Type 0 where
+  pub record Turn (z s : Zone) (w : Position) : Type 0 where
     pub own : of z w.lefts ≡ 0
     pub owner : of s w.rests ≡ 0
     pub stores : (k : Zone) → zone_number k ≢ zone_number z → zone_number k < zone_number s → of k w.lefts ≡ 0
     pub zones : (k : Zone) → zone_number k < zone_number z → of k w.rests ≡ 0
 
-  meets : (z s : Zone) (w : Way) → (zone_number z ≢ zone_number s → Turn z s w) → Meets (z, s) (own_stores ++ other_stores) w
+  meets : (z s : Zone) (w : Position) → (zone_number z ≢ zone_number s → Turn z s w) → Meets (z, s) (own_stores ++ other_stores) w
   meets First First w turn = inl (refl, refl)
   meets Second Second w turn = inr (inl (n12, n12, inl (refl, refl)))
   meets Third Third w turn = inr (inl (n13, n13, inr (inl (n23, n23, inl (refl, refl)))))
@@ -158,11 +158,11 @@ module _ (c : ℕ) (pos : 0 < c) where
   meets Third Second w turn = let t = turn n32 in let a = t.zones First (omega arith) in let d = t.stores First n13 (omega arith) in inr (inr (inl a, inl a, inr (inr (inl t.owner, inl t.owner, inr (inr (inr t.own, inr t.own, inr (inr (inl a, inl a, inr (inr (inl a, inl a, inr (inr (inl t.owner, inl t.owner, inr (inr (inl t.owner, inl t.owner, inr (inr (inr d, inr d, inl (refl, refl)))))))))))))))))
 
   -- where every pair is idle, the passes do nothing
-  at_rest : (pairs : List (Zone × Zone)) (w : Way) → ((z s : Zone) → Idle (z, s) w) → steps pairs w ≡ w
+  at_rest : (pairs : List (Zone × Zone)) (w : Position) → ((z s : Zone) → Idle (z, s) w) → steps pairs w ≡ w
   at_rest [] w all = refl
   at_rest (pair ∷ pairs) w all = ap (steps pairs) (idle pair.0 pair.1 w (all pair.0 pair.1)) ∙ at_rest pairs w all
 
-  abbrev passes : Way → Way
+  abbrev passes : Position → Position
   passes w = steps (own_stores ++ other_stores) w
 
   none_used : (rest left : ℕ) → min (wanted c rest) left ≡ 0 → (rest ≡ 0) ⊎ (left ≡ 0)
@@ -182,22 +182,22 @@ module _ (o : MeterOpening) (a : MeterAccount) where
   some_tenths : 0 < coefficient_for o.power
   some_tenths = omega (arith, coefficient_low o.power)
 
-  abbrev start : Way
+  abbrev start : Position
   start = record { rests = a.pending; lefts = each (λ (s : Ledger (Unit {0})). left_in s.portions) a.stores }
 
-  abbrev way_of : List (Covering Zone) → Way
-  way_of [] = start
-  way_of (d ∷ ds) = step c some_tenths (d.zone, d.from) (way_of ds)
+  abbrev position_of : List (Covering Zone) → Position
+  position_of [] = start
+  position_of (d ∷ ds) = step c some_tenths (d.zone, d.from) (position_of ds)
 
-  pub record Reached (ds : List (Covering Zone)) (w : Way) : Type 0 where
+  pub record Reached (ds : List (Covering Zone)) (w : Position) : Type 0 where
     pub rests_are : (z : Zone) → of z w.rests + covered_in metering z ds ≡ of z a.pending
     pub lefts_are : (z : Zone) → of z w.lefts + used_from metering z ds ≡ left_in (of z a.stores).portions
 
-  reached : (ds : List (Covering Zone)) → Always (Lawful metering o a) ds → Reached ds (way_of ds)
+  reached : (ds : List (Covering Zone)) → Always (Lawful metering o a) ds → Reached ds (position_of ds)
   reached [] lawful = record { rests_are = λ z. omega arith; lefts_are = λ z. omega (arith, of_each (λ (s : Ledger (Unit {0})). left_in s.portions) z a.stores) }
   reached (d ∷ ds) lawful =
       let ih = reached ds lawful.1 in
-      let w = way_of ds in
+      let w = position_of ds in
       let e = lawful.0.earned in
       let rest : d.rest ≡ of d.zone w.rests = omega (arith, e.rest_is, ih.rests_are d.zone) in
       let want : d.wanted ≡ wanted c d.rest = omega (arith, wanted_least c d.rest d.wanted some_tenths e.enough, e.least (wanted c d.rest) (wanted_serves c d.rest some_tenths)) in
@@ -212,13 +212,13 @@ module _ (o : MeterOpening) (a : MeterAccount) where
             (omega (arith, ih.lefts_are d.from, used)) (λ z. omega (arith, ih.lefts_are z));
       }
 
-  abbrev ends : Way → Way
+  abbrev ends : Position → Position
   ends w = passes c some_tenths w
 
-  used_is : (ds : List (Covering Zone)) (d : Covering Zone) → Always (Lawful metering o a) (d ∷ ds) → d.used ≡ min (wanted c (of d.zone (way_of ds).rests)) (of d.from (way_of ds).lefts)
+  used_is : (ds : List (Covering Zone)) (d : Covering Zone) → Always (Lawful metering o a) (d ∷ ds) → d.used ≡ min (wanted c (of d.zone (position_of ds).rests)) (of d.from (position_of ds).lefts)
   used_is ds d lawful =
       let ih = reached ds lawful.1 in
-      let w = way_of ds in
+      let w = position_of ds in
       let e = lawful.0.earned in
       let rest : d.rest ≡ of d.zone w.rests = omega (arith, e.rest_is, ih.rests_are d.zone) in
       let want : d.wanted ≡ wanted c d.rest = omega (arith, wanted_least c d.rest d.wanted some_tenths e.enough, e.least (wanted c d.rest) (wanted_serves c d.rest some_tenths)) in
@@ -226,12 +226,12 @@ module _ (o : MeterOpening) (a : MeterAccount) where
       let want' : d.wanted ≡ wanted c (of d.zone w.rests) = want ∙ ap (wanted c) rest in
       omega (arith, e.used_is, want', left)
 
-  same_end : (ds : List (Covering Zone)) → Always (Lawful metering o a) ds → ends (way_of ds) ≡ ends start
+  same_end : (ds : List (Covering Zone)) → Always (Lawful metering o a) ds → ends (position_of ds) ≡ ends start
   same_end [] lawful = refl
   same_end (d ∷ ds) lawful =
       let ih = same_end ds lawful.1 in
       let r = reached ds lawful.1 in
-      let w = way_of ds in
+      let w = position_of ds in
       let used = used_is ds d lawful in
       let gone : (z : Zone) → Emptied metering a ds z → of z w.lefts ≡ 0 = λ z e. omega (arith, e, r.lefts_are z) in
       let met : (z : Zone) → Covered metering a ds z → of z w.rests ≡ 0 = λ z e. omega (arith, e, r.rests_are z) in
@@ -246,11 +246,11 @@ module _ (o : MeterOpening) (a : MeterAccount) where
         | inr le ↦ ap ends (idle c some_tenths d.zone d.from w (none_used c some_tenths (of d.zone w.rests) (of d.from w.lefts) (omega (arith, used, le)))) ∙ ih
       ]
 
-  -- so all such draws of a settlement cover and use the same
-  at_end : (ds : List (Covering Zone)) → Serves metering o a ds → way_of ds ≡ ends start
+  -- so all such coverings of a settlement cover and use the same
+  at_end : (ds : List (Covering Zone)) → Serves metering o a ds → position_of ds ≡ ends start
   at_end ds s =
       let r = reached ds s.lawful in
-      let w = way_of ds in
+      let w = position_of ds in
       sym (at_rest c some_tenths (own_stores ++ other_stores) w (λ z from. all_idle (of z w.rests) (of from w.lefts) _ _ _ _ (r.rests_are z) (r.lefts_are from) (λ less. s.complete z less from))) ∙ same_end ds s.lawful
     where
       all_idle : (rest left x y p l : ℕ) → rest + x ≡ p → left + y ≡ l → (x < p → y ≡ l) → (rest ≡ 0) ⊎ (left ≡ 0)
@@ -262,6 +262,6 @@ module _ (o : MeterOpening) (a : MeterAccount) where
       let one = reached ds s.lawful in
       let two = reached ds' s'.lawful in
       let same = at_end ds s ∙ sym (at_end ds' s') in
-      let rests = ap (λ (w : Way). of z w.rests) same in
-      let lefts = ap (λ (w : Way). of z w.lefts) same in
+      let rests = ap (λ (w : Position). of z w.rests) same in
+      let lefts = ap (λ (w : Position). of z w.lefts) same in
       (omega (arith, rests, one.rests_are z, two.rests_are z), omega (arith, lefts, one.lefts_are z, two.lefts_are z))

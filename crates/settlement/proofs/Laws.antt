@@ -1,6 +1,7 @@
 -- How money is rounded, how portions and periods end, and how much is covered.
-use Rattle.std.proofs.Common.{◌≡◌, ℕ, zero, suc, ◌+◌, ◌*◌, ◌%◌, ◌<◌, ◌/◌, min, get_or, cond, eqb, ◌⊎◌, [], ◌∷◌, sym, refl, ap, ◌∙◌, arith}
-use Rattle.std.proofs.lemmas.Bool.{eqb-true, eq-eqb, le-leb, lt-leb}
+use Rattle.std.proofs.Common.{◌≡◌, ℕ, zero, suc, ◌+◌, ◌*◌, ◌%◌, ◌<◌, ◌/◌, min, get_or, eqb, ◌⊎◌, [], ◌∷◌, sym, refl, ap, ◌∙◌, arith}
+use Rattle.std.proofs.lemmas.Bool.Decides.{nat_tests}
+use Rattle.std.proofs.lemmas.Bool.{eqb-true, eq-eqb}
 use Rattle.calendar.specs.Calendar.{calendar_month_of}
 use Rattle.settlement.specs.Table.{ends, period_of}
 use Rattle.settlement.specs.Metering.{metering, or_monthly}
@@ -31,8 +32,8 @@ ends_portions = record {
 
 pub gives_tenths : GivesTenths
 gives_tenths = record {
-  eight = λ o some few. ap (λ b. cond b 8 7) (le-leb o.power 10000 few);
-  seven = λ o some few. ap (λ b. cond b 8 7) (lt-leb o.power 10000 some);
+  eight = λ o some few. grind (arith, nat_tests);
+  seven = λ o some few. grind (arith, nat_tests);
   ten = λ o. refl;
 }
 

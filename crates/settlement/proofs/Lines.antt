@@ -1,5 +1,5 @@
 -- Lemmas on the lines of a settlement.
-use Rattle.std.proofs.Common.{◌≡◌, ℕ, suc, ◌+◌, ◌-◌, ◌<◌, ◌≤◌, true, false, cond, eqb, List, [], ◌∷◌, map, length, Option, refl, ap, ◌∙◌, arith}
+use Rattle.std.proofs.Common.{◌≡◌, ℕ, suc, ◌+◌, ◌<◌, ◌≤◌, true, false, cond, eqb, List, [], ◌∷◌, map, length, Option, refl, ap, ◌∙◌, arith}
 use Rattle.std.proofs.lemmas.Bool.{ne_eqb, eq-eqb}
 use Rattle.portions.specs.Portions.{Portion}
 use Rattle.hours.specs.declared.zones.Zone.{Zone}
@@ -10,7 +10,7 @@ use Rattle.ledger.specs.Told.{RisingFrom}
 use Rattle.ledger.specs.Service.{taken_from}
 use Rattle.ledger.proofs.Lists.{Within, amounts_left_in, rising_taking}
 use Rattle.settlement.specs.declared.answers.Line.{Line}
-use Rattle.settlement.specs.Lines.{lines_of}
+use Rattle.settlement.specs.Lines.{line_of, lines_of}
 
 module _ {T : Type 0} (zone : Option Zone) where
   pub few_lines_of : (before : List ℕ) (ps : List (Portion T)) → length (lines_of zone before ps) ≤ length ps
@@ -74,7 +74,7 @@ module _ {T : Type 0} where
   lines_less zone f [] (p ∷ ps) l = absurd l
   lines_less zone f (was ∷ before) [] l = absurd l
   lines_less zone f (was ∷ before) (p ∷ ps) l =
-      let used : was.left - p.left ≡ f p.month = omega (arith, l.0) in
+      let used : (line_of zone was.left p).used ≡ f p.month = omega (arith, l.0) in
       let rest = lines_less zone f before ps l.1 in
       ap (λ u. record { zone = zone; month = p.month; used = u; left = p.left } ∷ lines_of zone (amounts_left_in before) ps) used ∙ ap (λ ls. record { zone = zone; month = p.month; used = f p.month; left = p.left } ∷ ls) rest
 

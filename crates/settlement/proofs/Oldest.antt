@@ -19,10 +19,10 @@ use Rattle.ledger.specs.Best as store_best
 use Rattle.ledger.specs.Best.{NoBetter}
 use Rattle.ledger.proofs.Store.{few_lefts, sound}
 use Rattle.settlement.specs.Accounts.{Workings, Covering}
-use Rattle.settlement.specs.History.{History, reached, HadOldestFirstRules, entered, settled, turned}
+use Rattle.settlement.specs.History.{History, reached, entered, settled, turned}
 use Rattle.settlement.specs.Inside.{at, draws_on, store_calls}
 use Rattle.settlement.specs.Turned.{TurnsTold}
-use Rattle.settlement.specs.Best.{OldestFirst, WentOldestFirst, NoneBetter}
+use Rattle.settlement.specs.Best.{OldestFirst, WentOldestFirst, HadOldestFirstRules, NoneBetter}
 use Rattle.settlement.proofs.Inside.{past_draws, reached_is}
 
 module _ {O A S Z T : Type 0} (works : Workings O A S Z T) (o : O) where
@@ -71,7 +71,7 @@ module _ {O A S Z T : Type 0} (works : Workings O A S Z T) (o : O) where
     past_all rule h [] s had = (s, had)
     past_all rule h (c ∷ cs) s had = let before = draws_had rule z h c cs s had in past_all rule h cs before.0 before.1
 
-    pub by_rules : LawfulKind works.kind → (h : History O S) (s : Ledger T) → store.Had works.kind m₀ (store_calls works o z h) s → HadOldestFirstRules m₀ h → WentOldestFirst works o z h
+    pub by_rules : LawfulKind works.kind → (h : History O S) (s : Ledger T) → store.Had works.kind m₀ (store_calls works o z h) s → HadOldestFirstRules works o h → WentOldestFirst works o z h
     by_rules law [] s had old = tt
     by_rules law (entered sums ∷ h) s had old = (tt, by_rules law h had.0 had.1 old.1)
     by_rules law (settled rule lines answer ∷ h) s had old =

@@ -30,7 +30,8 @@ Follows (open_for opening) = ⊥
 Follows (settle rule lines) = LawfulRule rule
 Follows _ = Unit {0}
 
--- a covering of a settlement, which draws for a zone on the store of a zone: the rest that was not covered in its zone before, what it wanted, what it used and what that covers
+-- a covering: a settlement draws on the store of a zone for what is not yet covered in a zone, the rest, wants so much of it, uses
+-- so much, and covers so much of the rest by that
 pub record Covering (Z : Type 0) : Type 0 where
   pub zone : Z
   pub from : Z

@@ -23,5 +23,6 @@ module _ {O A S Z T : Type 0} (works : Workings O A S Z T) where
   -- whatever such coverings, an accepted settlement does as they
   abbrev pub SettlementsDecided : Type 0
   SettlementsDecided =
-      (o : O) (h : History O S) (a : A) → Had works o h a → (rule : Rule) → LawfulRule rule → (lines : ℕ) → refusal works (settle rule lines) a ≡ None →
+      (o : O) (h : History O S) (a : A) → Had works o h a → (rule : Rule) → LawfulRule rule →
+      (lines : ℕ) → refusal works (settle rule lines) a ≡ None →
       (cs : List (Covering Z)) → Serves o a cs → DoesAs a rule cs

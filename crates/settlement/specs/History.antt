@@ -1,13 +1,10 @@
 -- Histories: the list of calls on one account since its opening, refused ones among them, each with its arguments and answer.
-use Rattle.std.specs.Prelude.{◌≡◌, ℕ, ◌+◌, ◌≤◌, List, [], ◌∷◌, length, Ok, Err, Result}
+use Rattle.std.specs.Prelude.{ℕ, ◌+◌, List, [], ◌∷◌, Ok, Err, Result}
 use Rattle.faults.specs.declared.AccountFault.{AccountFault}
 use Rattle.histories.specs.Histories as histories
-use Rattle.histories.specs.Histories.{Always}
 use Rattle.histories.specs.Histories.Event.{did}
 pub use Rattle.histories.specs.Histories.Event.{refused}
 use Rattle.hours.specs.declared.sums.MonthSums.{MonthSums}
-use Rattle.portions.specs.declared.TheConstants.{MOST_OPEN}
-use Rattle.portions.specs.Taking.{oldest}
 use Rattle.ledger.specs.Rules.{Rule}
 use Rattle.settlement.specs.declared.answers.Returned.{Returned}
 use Rattle.settlement.specs.declared.states.MonthState.{MonthState}
@@ -65,15 +62,6 @@ module _ {O S : Type 0} where
   month_state (settled rule lines answer ∷ h) = Settled
   month_state (turned refunded lost ∷ h) = Waiting
   month_state (_ ∷ h) = month_state h
-
-  -- an accepted settlement had a rule that goes oldest first in its month, for no more amounts than can be open
-  abbrev pub HadOldestFirstRule : ℕ → History O S → Event O S → Type 0
-  HadOldestFirstRule m₀ h (settled rule lines answer) = (lefts : List ℕ) → length lefts ≤ MOST_OPEN → (wanted : ℕ) → rule (reached m₀ h) lefts wanted ≡ oldest lefts wanted
-  HadOldestFirstRule m₀ h _ = Unit {0}
-
-  -- every accepted settlement had one
-  abbrev pub HadOldestFirstRules : ℕ → History O S → Type 0
-  HadOldestFirstRules m₀ h = Always (HadOldestFirstRule m₀) h
 
 module _ {O A S Z T : Type 0} (works : Workings O A S Z T) where
   -- an account that was opened so has had the calls h and is at a

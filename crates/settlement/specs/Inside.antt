@@ -9,14 +9,15 @@ use Rattle.settlement.specs.Accounts.{Workings, Covering, machine}
 use Rattle.settlement.specs.History.{Event, History, entered, settled, turned}
 
 module _ {O A S Z T : Type 0} (works : Workings O A S Z T) where
-  -- where they bring an account
+  -- where the calls h bring an account that was opened so
   abbrev pub at : O → History O S → A
   at o h = histories.brought (machine works) o h
 
-  -- the draws of coverings by a rule, of those on the store of z
+  -- the draws that coverings by a rule make on the store of z
   abbrev pub draws_on : Z → Rule → List (Covering Z) → store.History T
   draws_on z rule [] = []
-  draws_on z rule (c ∷ cs) = cond (works.place c.from == works.place z) (store.drew (record { rule = rule; wanted = c.wanted }) c.used ∷ draws_on z rule cs) (draws_on z rule cs)
+  draws_on z rule (c ∷ cs) =
+      cond (works.place c.from == works.place z) (store.drew (record { rule = rule; wanted = c.wanted }) c.used ∷ draws_on z rule cs) (draws_on z rule cs)
 
   -- the calls on the store of z that an event means, where the account is at a: a refused call means none
   abbrev pub calls_in : O → Z → A → Event O S → store.History T
@@ -25,7 +26,7 @@ module _ {O A S Z T : Type 0} (works : Workings O A S Z T) where
   calls_in o z a (turned refunded lost) = store.turned (refunds works.kind (works.store a z)) (losses works.kind (works.store a z)) ∷ []
   calls_in o z a _ = []
 
-  -- and all of a history
+  -- those that a history means
   abbrev pub store_calls : O → Z → History O S → store.History T
   store_calls o z [] = []
   store_calls o z (e ∷ h) = calls_in o z (at o h) e ++ store_calls o z h

@@ -12,11 +12,11 @@ use Rattle.ledger.specs.Promises as store_promise
 use Rattle.settlement.specs.Accepted.{NoneRefused}
 use Rattle.settlement.specs.Accounts.{Workings, machine}
 use Rattle.settlement.specs.Accounts.Call.{open_for}
-use Rattle.settlement.specs.History.{Event, History, Had, in_all, unsettled, HadOldestFirstRules}
+use Rattle.settlement.specs.History.{Event, History, Had, in_all, unsettled}
 use Rattle.settlement.specs.Inside.{store_calls}
 use Rattle.settlement.specs.Settled.{AllSettledRightly}
 use Rattle.settlement.specs.Turned.{TurnsTold}
-use Rattle.settlement.specs.Best.{WentOldestFirst, NoneBetter}
+use Rattle.settlement.specs.Best.{WentOldestFirst, HadOldestFirstRules, NoneBetter}
 use Rattle.settlement.specs.Refusals.{stands, OpenedRightly, AllRightly}
 
 module _ {O A S Z T : Type 0} (works : Workings O A S Z T) where
@@ -30,9 +30,10 @@ module _ {O A S Z T : Type 0} (works : Workings O A S Z T) where
     -- its draws went oldest first where those of the settlements did
     pub oldest_first : WentOldestFirst works o z h → store_best.WentOldestFirst works.kind (works.own_month o) calls
     -- then no fair way of serving them uses more, or lets less run out
-    pub best : WentOldestFirst works o z h → (way : Way) → Fair works.kind (works.own_month o) way calls → NoBetter works.kind (works.own_month o) calls way
+    pub best : WentOldestFirst works o z h → (way : Way) → Fair works.kind (works.own_month o) way calls →
+        NoBetter works.kind (works.own_month o) calls way
     -- and so they did where the settlements had rules that go oldest first
-    pub by_rules : HadOldestFirstRules (works.own_month o) h → WentOldestFirst works o z h
+    pub by_rules : HadOldestFirstRules works o h → WentOldestFirst works o z h
 
   -- the promise of an account that was opened so, has had the calls h and now is at a
   pub record Promised (o : O) (h : History O S) (a : A) : Type 0 where
@@ -51,7 +52,8 @@ module _ {O A S Z T : Type 0} (works : Workings O A S Z T) where
     -- what the turns refund and lose is what the stores do
     pub turns_told : TurnsTold works o h
     -- where all draws went oldest first, no fair ways of serving them, one for each store, are better over all stores
-    pub best : ((z : Z) → WentOldestFirst works o z h) → (ways : Z → Way) → ((z : Z) → Fair works.kind (works.own_month o) (ways z) (store_calls works o z h)) → NoneBetter works o h ways
+    pub best : ((z : Z) → WentOldestFirst works o z h) → (ways : Z → Way) →
+        ((z : Z) → Fair works.kind (works.own_month o) (ways z) (store_calls works o z h)) → NoneBetter works o h ways
     -- a settlement has a line for each open portion, and never more than it asks room for
     pub few_lines : (rule : Rule) → length (works.lines rule a) ≤ works.fewest_lines
 

@@ -25,19 +25,23 @@ module _ {O A S Z T : Type 0} (works : Workings O A S Z T) where
     pub covered_is : (z : Z) → works.covered answer z ≡ covered_in works z (works.coverings rule a)
     pub due_is : (z : Z) → works.covered answer z + works.due answer z ≡ works.pending a z
     -- and something is due only if nothing is left in any store
-    pub due_only_when_empty : (z : Z) → 0 < works.due answer z → (from : Z) → left_in (works.store (works.settling rule a) from).portions ≡ 0
+    pub due_only_when_empty : (z : Z) → 0 < works.due answer z →
+        (from : Z) → left_in (works.store (works.settling rule a) from).portions ≡ 0
     -- each store has used so much more, and all of it for the zones
     pub risen : (z : Z) → used_after rule a z ≡ used_before a z + used_from works z (works.coverings rule a)
-    pub for_zones : total (λ z. used_for works z (works.coverings rule a)) works.zones ≡ total (λ z. used_from works z (works.coverings rule a)) works.zones
+    pub for_zones :
+        total (λ z. used_for works z (works.coverings rule a)) works.zones ≡ total (λ z. used_from works z (works.coverings rule a)) works.zones
     -- so no more is covered in a zone than was paid for
     pub paid : (z : Z) → 10 * works.covered answer z ≤ used_for works z (works.coverings rule a) * works.tenths o
     -- where ten tenths are covered, all that was used is, and what is covered is what the stores have used more
     pub at_par : works.tenths o ≡ 10 → (z : Z) → works.covered answer z ≡ used_for works z (works.coverings rule a)
-    pub rise_at_par : works.tenths o ≡ 10 → total (used_before a) works.zones + total (works.covered answer) works.zones ≡ total (used_after rule a) works.zones
+    pub rise_at_par : works.tenths o ≡ 10 →
+        total (used_before a) works.zones + total (works.covered answer) works.zones ≡ total (used_after rule a) works.zones
 
   -- an accepted settlement after the calls h is that, and its lines tell it
   abbrev pub SettledRightly : O → History O S → Event O S → Type 0
-  SettledRightly o h (settled rule lines answer) = IsWhatItsCoveringsComeTo o (at works o h) rule answer × TellsLines works o h (at works o h) rule answer
+  SettledRightly o h (settled rule lines answer) =
+      IsWhatItsCoveringsComeTo o (at works o h) rule answer × TellsLines works o h (at works o h) rule answer
   SettledRightly o h _ = Unit {0}
 
   -- every one is

@@ -21,7 +21,8 @@ module _ {O A S Z T : Type 0} (works : Workings O A S Z T) where
   -- what coverings by a rule, after the calls h, took from the portion of month k in the store of z
   abbrev pub took : O → History O S → Rule → Z → List (Covering Z) → ℕ → ℕ
   took o h rule z [] k = 0
-  took o h rule z (c ∷ cs) k = counted_for works z c.from (takes_from rule c.wanted (store_after works o h rule cs z) k) + took o h rule z cs k
+  took o h rule z (c ∷ cs) k =
+      counted_for works z c.from (takes_from rule c.wanted (store_after works o h rule cs z) k) + took o h rule z cs k
 
   -- the lines of the store of z for a settlement at a, after the calls h: one for each open portion, oldest first
   abbrev pub lines_for : O → History O S → A → Rule → Z → List Line

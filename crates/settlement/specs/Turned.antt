@@ -27,7 +27,8 @@ module _ {O A S Z T : Type 0} (works : Workings O A S Z T) (o : O) where
   -- an accepted turn after the calls h answers what it makes each store refund and lose, added up
   abbrev pub TurnTold : History O S → Event O S → Type 0
   TurnTold h (turned refunded lost) =
-      (refunded ≡ total (λ z. refunds works.kind (works.store (at works o h) z)) works.zones) × (lost ≡ total (λ z. losses works.kind (works.store (at works o h) z)) works.zones)
+      (refunded ≡ total (λ z. refunds works.kind (works.store (at works o h) z)) works.zones)
+      × (lost ≡ total (λ z. losses works.kind (works.store (at works o h) z)) works.zones)
   TurnTold h _ = Unit {0}
 
   -- every turn does, and all together answer what the stores have refunded and lost
