@@ -168,21 +168,21 @@ module _ (o : BillOpening) (b : BillAccount) where
   used_few [] so = omega arith
   used_few (c ∷ cs) so = omega (arith, so.0.earned.used_is, used_few cs so.1)
 
--- so they come to what the settlement does
+-- so all that serve the account come to what the settlement does
 pub bill_decided : SettlementsDecided billing
-bill_decided o h b had rule law lines none cs serves =
+bill_decided o h b had rule law lines none =
     let all = draw_sum rule law b.bill b.store (few_lefts deposit lawful o.month (store_calls billing o tt h) b.store (sound o h b had).had) in
-    let covered = covered_few o b cs serves.lawful in
-    let used = used_few o b cs serves.lawful in
-    let at_par = all_used billing o b refl cs serves.lawful tt in
-    let whole : covered_in billing tt cs ≡ sum (paid rule b) = elim (cases_lt (covered_in billing tt cs) b.bill) [
-      | inl less ↦ let empty = serves.complete tt less tt in omega (arith, all, covered, at_par, empty)
-      | inr le ↦ omega (arith, all, covered, used, at_par, le)
-    ] in
     record {
-      covered_is = λ z. omega (arith, whole);
-      due_is = λ z. omega (arith, whole, all);
-      risen = λ z. omega (arith, whole, at_par);
+      own = record { lawful = (shown o h b had rule law lines none).lawful; complete = λ z less from. omega (arith, less, all) };
+      any = λ cs serves.
+          let covered = covered_few o b cs serves.lawful in
+          let used = used_few o b cs serves.lawful in
+          let at_par = all_used billing o b refl cs serves.lawful tt in
+          let whole : covered_in billing tt cs ≡ sum (paid rule b) = elim (cases_lt (covered_in billing tt cs) b.bill) [
+            | inl less ↦ let empty = serves.complete tt less tt in omega (arith, all, covered, at_par, empty)
+            | inr le ↦ omega (arith, all, covered, used, at_par, le)
+          ] in
+          record { covered_is = λ z. omega (arith, whole); due_is = λ z. omega (arith, whole, all); risen = λ z. omega (arith, whole, at_par) };
     }
 
 pub billing_keeps : KeepsPromise billing

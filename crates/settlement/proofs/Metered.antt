@@ -324,17 +324,17 @@ shown o h a had rule law lines none =
       };
     }
 
--- whatever coverings keep the laws at the account and leave nothing due where something is left, the settlement does as they
+-- the settlement's own coverings serve the account, and it does as any that do
 pub meter_decided : SettlementsDecided metering
-meter_decided o h a had rule law lines none ds serves =
+meter_decided o h a had rule law lines none =
     let st = end_of o h a had rule law lines none in
     let done = shown o h a had rule law lines none in
     let own : Serves metering o a (metering.coverings rule a) = record { lawful = st.lawful; complete = λ k less from. omega (arith, st.served k from (every_pair k from) (omega (arith, less, st.rests_are k)), st.lefts_are from) } in
-    let same = decided o a (metering.coverings rule a) ds own serves in
     record {
-      covered_is = λ z. done.covered_is z ∙ (same z).0;
-      due_is = λ z. omega (arith, done.covered_is z, done.due_is z, (same z).0);
-      risen = λ z. omega (arith, done.risen z, (same z).1);
+      own = own;
+      any = λ ds serves.
+          let same = decided o a (metering.coverings rule a) ds own serves in
+          record { covered_is = λ z. done.covered_is z ∙ (same z).0; due_is = λ z. omega (arith, done.covered_is z, done.due_is z, (same z).0); risen = λ z. omega (arith, done.risen z, (same z).1) };
     }
 
 -- the account stands where its calls have brought it

@@ -20,9 +20,13 @@ module _ {O A S Z T : Type 0} (works : Workings O A S Z T) where
     pub due_is : (z : Z) → covered_in works z cs + works.due (works.settlement rule a) z ≡ works.pending a z
     pub risen : (z : Z) → used_after works rule a z ≡ used_before works a z + used_from works z cs
 
-  -- whatever such coverings, an accepted settlement does as they
+  -- the laws decide a settlement by this rule at a: its own coverings serve the account, and it does as any that do
+  pub record IsDecided (o : O) (a : A) (rule : Rule) : Type 0 where
+    pub own : Serves o a (works.coverings rule a)
+    pub any : (cs : List (Covering Z)) → Serves o a cs → DoesAs a rule cs
+
+  -- every accepted settlement is decided
   abbrev pub SettlementsDecided : Type 0
   SettlementsDecided =
       (o : O) (h : History O S) (a : A) → Had works o h a → (rule : Rule) → LawfulRule rule →
-      (lines : ℕ) → refusal works (settle rule lines) a ≡ None →
-      (cs : List (Covering Z)) → Serves o a cs → DoesAs a rule cs
+      (lines : ℕ) → refusal works (settle rule lines) a ≡ None → IsDecided o a rule
