@@ -1,5 +1,5 @@
 // Opening a book, reading hours into it and finishing it.
-ghost use Rattle.std.specs.Prelude.{◌≡◌, ◌+◌, ◌*◌, ◌<◌, ◌≤◌, true, List, [], IfOk, Some, None, Ok, Err};
+ghost use Rattle.std.specs.Prelude.{◌≡◌, ◌+◌, ◌*◌, ◌<◌, ◌≤◌, true, List, [], IfOk, Some, None, Ok, Err, pos, negsuc, ◌≤ℤ◌};
 ghost use Rattle.hours.specs.Balance.{balance, energy_given, energy_taken};
 ghost use Rattle.hours.specs.Price.{Ranged, positive};
 ghost use Rattle.hours.specs.Zones.{zone_number};
@@ -17,10 +17,12 @@ use crate::zones::Zone;
 use calendar::Month;
 use faults::BookFault;
 
-// Import − export of an hour, in Wh: what it took from the grid, or, where it is negative, gave to it.
+// Import − export of an hour, in Wh: what it took from the grid, or, where it is negative, gave to it. A larger reading is refused
+// before there is one.
 #[derive(Clone, Copy)]
 struct Balance {
     net: i32,
+    ghost small: { (negsuc 99999 ≤ℤ net) × (net ≤ℤ pos 100000) },
 }
 
 impl Reading {
@@ -31,7 +33,7 @@ impl Reading {
         self.import > 100_000 || self.export > 100_000
     }
 
-    // The difference import − export. Neither is over 100,000 Wh, so it fits.
+    // The difference import − export.
     fn balance(self) -> Balance
         requires import { self.import ≤ 100000 }
         requires export { self.export ≤ 100000 }
@@ -55,7 +57,7 @@ impl Balance {
     fn given(self) -> u32
         ensures { result ≡ energy_given self.net }
     {
-        self.net.min(0).unsigned_abs()
+        (-self.net).max(0) as u32
     }
 }
 
