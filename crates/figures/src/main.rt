@@ -3,6 +3,7 @@
 
 mod draws;
 mod ends;
+mod first_open;
 mod months;
 mod openings;
 mod settlements;
@@ -30,6 +31,7 @@ fn main(rt: HostRuntime) -> anyhow::Result<()> {
     statements::figures_hold();
     months::show_months(&rt)?;
     draws::show_draws(&rt)?;
+    first_open::show_first_open(&rt)?;
     ends::show_ends(&rt)?;
     openings::show_openings_at_bounds(&rt)?;
     settlements::show_settlements(&rt)
