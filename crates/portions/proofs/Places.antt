@@ -44,8 +44,10 @@ by_share ls w =
 
 pub proportional_by_place : ProportionalByPlace
 proportional_by_place ls w =
-    let own = by_share ls w in
-    (own, λ ts share.
-      let same : (j : ℕ) → get_or ts j 0 ≡ get_or (proportional ls w) j 0 = λ j.
-      ⊎_elim (λ (some : 0 < sum ls). share.each some j ∙ sym (own.each some j)) (λ (le : sum ls ≤ 0). let empty : sum ls ≡ 0 = omega (arith, le) in share.none empty j ∙ sym (own.none empty j)) (cases_lt 0 (sum ls)) in
-      ext_get_or 0 ts _ (share.sized ∙ sym own.sized) (λ j lt. same j))
+    let own = by_share ls w in (
+      own,
+      λ ts share.
+          let same : (j : ℕ) → get_or ts j 0 ≡ get_or (proportional ls w) j 0 = λ j.
+          ⊎_elim (λ (some : 0 < sum ls). share.each some j ∙ sym (own.each some j)) (λ (le : sum ls ≤ 0). let empty : sum ls ≡ 0 = omega (arith, le) in share.none empty j ∙ sym (own.none empty j)) (cases_lt 0 (sum ls)) in
+          ext_get_or 0 ts _ (share.sized ∙ sym own.sized) (λ j lt. same j),
+    )

@@ -5,7 +5,6 @@ use Rattle.std.proofs.Math.Nat.{add-mul-div_left, mul-div_left, zero-div}
 use Rattle.std.proofs.lemmas.Nat.{le-div, div-add-mod'}
 use Rattle.portions.specs.Sums.{sum}
 use Rattle.std.proofs.lemmas.List.{length-take}
-use Rattle.portions.specs.Totals.{total_cons}
 use Rattle.std.proofs.lemmas.Bool.{cases_lt}
 use Rattle.portions.specs.declared.TheConstants.{MOST_OPEN}
 use Rattle.portions.specs.declared.amounts.Amounts.{Amounts}
@@ -31,9 +30,7 @@ oldest_bounded ls w i = omega (arith, oldest_each ls w i)
 -- and together the smaller of wanted and the total
 pub oldest_sum : (ls : List ℕ) (w : ℕ) → sum (oldest ls w) ≡ min w (sum ls)
 oldest_sum [] w = omega arith
-oldest_sum (a ∷ ls) w =
-    let r = oldest_sum ls (w - a) in
-    omega (arith, r, total_cons (λ x. x) a ls, total_cons (λ x. x) (min w a) (oldest ls (w - a)))
+oldest_sum (a ∷ ls) w = omega (arith, oldest_sum ls (w - a))
 
 -- a pass over the amounts, with `rest` still wanted at the place i
 pub record Serving (ls all : List ℕ) (w i rest : ℕ) : Type 0 where
@@ -74,9 +71,8 @@ pub shares_sum : (w t b : ℕ) (ls : List ℕ) → 0 < t → w * b / t + sum (sh
 shares_sum w t b [] p = omega (arith, ap (λ n. w * n / t) (add-zero b))
 shares_sum w t b (a ∷ ls) p =
     let r = shares_sum w t (b + a) ls p in
-    let c = total_cons (λ x. x) a ls in
-    let e : b + a + sum ls ≡ b + sum (a ∷ ls) = omega (arith, c) in
-    omega (arith, r, share_mono w t b a p, ap (λ n. w * n / t) e, total_cons (λ x. x) (w * (b + a) / t - w * b / t) (shares w t (b + a) ls))
+    let e : b + a + sum ls ≡ b + sum (a ∷ ls) = omega arith in
+    omega (arith, r, share_mono w t b a p, ap (λ n. w * n / t) e)
 
 -- proportional takings are one for each amount
 pub proportional_length : (ls : List ℕ) (w : ℕ) → length (proportional ls w) ≡ length ls

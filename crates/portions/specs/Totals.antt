@@ -4,10 +4,6 @@ use Rattle.std.proofs.Common.{ap, ◌∙◌, arith}
 use Rattle.std.proofs.lemmas.List.{take_more}
 use Rattle.portions.specs.Sums.{total}
 
--- the total of one and the others
-pub total_cons : {X : Type 0} (f : X → ℕ) (x : X) (xs : List X) → total f (x ∷ xs) ≡ f x + total f xs
-total_cons f x xs = refl
-
 -- of two lists
 pub total-++ : {X : Type 0} (f : X → ℕ) (xs ys : List X) → total f (xs ++ ys) ≡ total f xs + total f ys
 total-++ f [] ys = omega arith
