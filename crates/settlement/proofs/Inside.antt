@@ -27,7 +27,7 @@ module _ {O A S Z T : Type 0} (works : Workings O A S Z T) where
     draws_accepted [] none = none
     draws_accepted (c ∷ cs) none =
         let ih = draws_accepted cs none in
-        elim (eqb (works.place c.from) (works.place z)) as (λ b. NoneRefused (cond b (store.drew (record { rule = rule; wanted = c.wanted }) c.used ∷ draws_on works z rule cs) (draws_on works z rule cs) ++ calls)) [ true ↦ ih | false ↦ ih ]
+        elim (eqb (works.place c.from) (works.place z)) as (λ b. NoneRefused (cond b (store.drew (record { rule = rule; wanted = c.wanted }) c.used ∷ draws_on works z rule cs) (draws_on works z rule cs) ++ calls)) [ true ↦ (tt, ih) | false ↦ ih ]
 
   module _ (o : O) (z : Z) where
     -- the calls on a store enter what the enters have for it
@@ -40,7 +40,9 @@ module _ {O A S Z T : Type 0} (works : Workings O A S Z T) where
     -- none is refused
     pub none_refused : (h : History O S) → NoneRefused (store_calls works o z h)
     none_refused [] = tt
+    none_refused (entered sums ∷ h) = (tt, none_refused h)
     none_refused (settled rule lines answer ∷ h) = draws_accepted rule z (store_calls works o z h) (works.coverings rule (at works o h)) (none_refused h)
+    none_refused (turned refunded lost ∷ h) = (tt, none_refused h)
     none_refused (_ ∷ h) = none_refused h
 
     -- they turn the months that the account turns

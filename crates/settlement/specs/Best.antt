@@ -37,7 +37,7 @@ module _ {O A S Z T : Type 0} (works : Workings O A S Z T) (o : O) where
       (lefts : List ℕ) → length lefts ≤ MOST_OPEN → (wanted : ℕ) → rule (reached (works.own_month o) h) lefts wanted ≡ oldest lefts wanted
   HadOldestFirstRule h _ = Unit {0}
 
-  -- every accepted settlement did
+  -- every accepted settlement had one
   abbrev pub HadOldestFirstRules : History O S → Type 0
   HadOldestFirstRules h = Always HadOldestFirstRule h
 
