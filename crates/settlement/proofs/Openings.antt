@@ -68,9 +68,9 @@ module _ (o : MeterOpening) where
   pub meter_refused : (f : AccountFault) → meter.open_refusal o ≡ Some f → Smallest metering o (account_number f)
   meter_refused f =
       begins_failed metering o f o.slots o.month _ (λ few. (inl (refl, few), meter_from_1)) (λ slots out. (inr (inl (refl, out)), meter_from_2 slots)) (λ slots from to.
-      first_failed metering o f (leb 1 o.power) _ _ (λ n. (inr (inr (inl (refl, inl (omega (arith, leb-false 1 o.power n))))), meter_from_21 slots from to)) (λ y.
-      first_failed metering o f (leb o.power 50000) _ _ (λ n. (inr (inr (inl (refl, inr (leb-false o.power 50000 n)))), meter_from_21 slots from to)) (λ z.
-      first_failed metering o f (is_some (period_of o.months)) _ None
+      first_failed metering o f _ _ _ (λ n. (inr (inr (inl (refl, inl (omega (arith, leb-false 1 o.power n))))), meter_from_21 slots from to)) (λ y.
+      first_failed metering o f _ _ _ (λ n. (inr (inr (inl (refl, inr (leb-false o.power 50000 n)))), meter_from_21 slots from to)) (λ z.
+      first_failed metering o f _ _ None
       (λ n. let no = unknown o.months n in (inr (inr (inr (refl, no.0, no.1, no.2))), meter_from_22 slots from to (leb-true 1 o.power y) (leb-true o.power 50000 z)))
       (λ w. no_fault f))))
 
@@ -78,9 +78,9 @@ module _ (o : MeterOpening) where
   pub meter_opened : meter.open_refusal o ≡ None → OpenedRightly metering o
   meter_opened e n applies =
       let a = opens_in o.slots o.month _ _ _ _ e in
-      let b = asked (leb 1 o.power) _ _ a.3 in
-      let c = asked (leb o.power 50000) _ _ b.1 in
-      let d = asked (is_some (period_of o.months)) _ None c.1 in
+      let b = asked _ _ _ a.3 in
+      let c = asked _ _ _ b.1 in
+      let d = asked _ _ None c.1 in
       none_left a.2 a.0 a.1 (leb-true 1 o.power b.0) (leb-true o.power 50000 c.0) applies (known o.months d.0)
     where
       none_left : 12 < o.slots → 47 ≤ o.month → o.month ≤ 1199 → 1 ≤ o.power → o.power ≤ 50000 → meter.Applies o n → (o.months ≢ 1 → o.months ≢ 2 → o.months ≢ 6 → ⊥) → ⊥
@@ -102,12 +102,12 @@ module _ (o : BillOpening) where
   pub bill_refused : (f : AccountFault) → bill.open_refusal o ≡ Some f → Smallest billing o (account_number f)
   bill_refused f =
       begins_failed billing o f o.slots o.month _ (λ few. (inl (refl, few), bill_from_1)) (λ slots out. (inr (inl (refl, out)), bill_from_2 slots)) (λ slots from to.
-      first_failed billing o f (leb o.percentage 100) _ None (λ n. (inr (inr (refl, leb-false o.percentage 100 n)), bill_from_23 slots from to)) (λ y. no_fault f))
+      first_failed billing o f _ _ None (λ n. (inr (inr (refl, leb-false o.percentage 100 n)), bill_from_23 slots from to)) (λ y. no_fault f))
 
   pub bill_opened : bill.open_refusal o ≡ None → OpenedRightly billing o
   bill_opened e n applies =
       let a = opens_in o.slots o.month _ _ _ _ e in
-      let b = asked (leb o.percentage 100) _ None a.3 in
+      let b = asked _ _ None a.3 in
       none_left a.2 a.0 a.1 (leb-true o.percentage 100 b.0) applies
     where
       none_left : 12 < o.slots → 47 ≤ o.month → o.month ≤ 1199 → o.percentage ≤ 100 → bill.Applies o n → ⊥

@@ -38,7 +38,7 @@ module _ {O A S Z T : Type 0} (works : Workings O A S Z T) where
   -- the promise of an account that was opened so, has had the calls h and now is at a
   pub record Promised (o : O) (h : History O S) (a : A) : Type 0 where
     pub had : Had works o h a
-    -- it was opened for what it may be
+    -- no number applied to its opening
     pub opened_rightly : OpenedRightly works o
     -- the account stands where its calls have brought it, and every one was accepted or refused as it should have been
     pub standing_told : works.standing a ≡ stands works o h
