@@ -6,3 +6,4 @@ mod Paid
 mod DrawnSlots
 mod Meters
 mod Covered
+mod Unopened

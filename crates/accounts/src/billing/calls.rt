@@ -1,4 +1,4 @@
-ghost use Rattle.std.specs.Prelude.{◌≡◌, length, is_ok};
+ghost use Rattle.std.specs.Prelude.{◌≡◌, [], length, is_ok};
 ghost use Rattle.histories.specs.Machines.{gives, leaves, answers};
 ghost use Rattle.histories.specs.Histories.{event};
 ghost use Rattle.settlement.specs.Accounts.{machine};
@@ -9,7 +9,8 @@ ghost use Rattle.settlement.specs.Promises.{Keeps, OpenKeeps};
 ghost use Rattle.settlement.specs.Billing.{billing, closed, open_refusal};
 ghost use Rattle.store.specs.Held.{lent, room};
 ghost use Rattle.store.specs.Slots.{Accounted};
-ghost use Rattle.accounts.specs.Billed.{billed, bill_opening};
+ghost use Rattle.accounts.specs.Billed.{billed, bill_opening, bills};
+ghost use Rattle.accounts.specs.Unopened.{AsLent, StaysAsLent, OpenStaysAsLent};
 ghost use Rattle.accounts.specs.Slots.{SameSlots};
 
 use crate::billing::Billing;
@@ -31,6 +32,7 @@ impl<'a> Billing<'a> {
         ensures state { billed result ≡ closed }
         ensures slots { lent result.store ≡ slots.old }
         ensures lender { result.store.rows.slots.ghost_name ≡ slots.entry.ghost_name }
+        ensures unopened { AsLent bills slots.old [] result }
     {
         Billing {
             store: Store::over(slots),
@@ -58,6 +60,7 @@ impl<'a> Billing<'a> {
         ensures state { billed self.new ≡ leaves (machine billing) (open_for (bill_opening (room self.old.store) month percentage)) (billed self.old) }
         ensures slots { SameSlots self.old.store self.new.store }
         ensures promised { OpenKeeps billing (billed self.old) (bill_opening (room self.old.store) month percentage) result (billed self.new) }
+        ensures unopened { OpenStaysAsLent bills self.old (bill_opening (room self.old.store) month percentage) result self.new }
     {
         self.may_open(month, percentage)?;
         open_store(&mut self.store, month)?;
@@ -73,6 +76,7 @@ impl<'a> Billing<'a> {
         ensures state { billed self.new ≡ leaves (machine billing) (enter sums) (billed self.old) }
         ensures slots { Accounted (is_ok result) self.old.store self.new.store }
         ensures promised { Keeps billing (billed self.old) (enter_event sums result) (billed self.new) }
+        ensures unopened { StaysAsLent bills self.old (enter_event sums result) self.new }
     {
         // A match, since a refusal hands the sums back and an accepted enter strikes them: `map_err` would take them for both.
         match self.take_in(&sums) {
@@ -108,6 +112,7 @@ impl<'a> Billing<'a> {
         ensures lines { lines.new ≡ settle_lines billing (R.Rule.gives rule.now) (billed self.old) lines.old }
         ensures slots { Accounted (is_ok result) self.old.store self.new.store }
         ensures promised { Keeps billing (billed self.old) (event (settle (R.Rule.gives rule.now) (length lines.old)) result) (billed self.new) }
+        ensures unopened { StaysAsLent bills self.old (event (settle (R.Rule.gives rule.now) (length lines.old)) result) self.new }
     {
         let next = self.may_settle(MOST_PORTIONS, lines.len())?;
         let before = self.store.lefts();
@@ -126,6 +131,7 @@ impl<'a> Billing<'a> {
         ensures state { billed self.new ≡ leaves (machine billing) turn (billed self.old) }
         ensures slots { Accounted (is_ok result) self.old.store self.new.store }
         ensures promised { Keeps billing (billed self.old) (event turn result) (billed self.new) }
+        ensures unopened { StaysAsLent bills self.old (event turn result) self.new }
     {
         let next = self.may_turn()?;
         let ended = turn_store(&mut self.store)?;

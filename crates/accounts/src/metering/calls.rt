@@ -1,4 +1,4 @@
-ghost use Rattle.std.specs.Prelude.{◌≡◌, length, is_ok};
+ghost use Rattle.std.specs.Prelude.{◌≡◌, [], length, is_ok};
 ghost use Rattle.settlement.specs.Table.{period_of};
 ghost use Rattle.histories.specs.Machines.{gives, leaves, answers};
 ghost use Rattle.histories.specs.Histories.{event};
@@ -10,7 +10,8 @@ ghost use Rattle.settlement.specs.Promises.{Keeps, OpenKeeps};
 ghost use Rattle.settlement.specs.Metering.{metering, closed, open_refusal, or_monthly};
 ghost use Rattle.store.specs.Held.{lent};
 ghost use Rattle.accounts.specs.Means.{fewest};
-ghost use Rattle.accounts.specs.Metered.{metered, meter_opening};
+ghost use Rattle.accounts.specs.Metered.{metered, meter_opening, meters};
+ghost use Rattle.accounts.specs.Unopened.{AsLent, StaysAsLent, OpenStaysAsLent};
 ghost use Rattle.accounts.specs.Slots.{EachSame, EachAccounted};
 
 use crate::inside::{MOST_PORTIONS, month_in_range};
@@ -33,6 +34,7 @@ impl<'a> Metering<'a> {
         ensures first { (lent result.meters.stores.one ≡ one.old) × (result.meters.stores.one.rows.slots.ghost_name ≡ one.entry.ghost_name) }
         ensures second { (lent result.meters.stores.two ≡ two.old) × (result.meters.stores.two.rows.slots.ghost_name ≡ two.entry.ghost_name) }
         ensures third { (lent result.meters.stores.three ≡ three.old) × (result.meters.stores.three.rows.slots.ghost_name ≡ three.entry.ghost_name) }
+        ensures unopened { AsLent meters (record { one = one.old; two = two.old; three = three.old }) [] result }
     {
         let stores = Zones {
             one: Store::over(one),
@@ -71,6 +73,7 @@ impl<'a> Metering<'a> {
         ensures state { metered self.new ≡ leaves (machine metering) (open_for (meter_opening (fewest self.old.meters.stores) month power months)) (metered self.old) }
         ensures slots { EachSame self.old.meters.stores self.new.meters.stores }
         ensures promised { OpenKeeps metering (metered self.old) (meter_opening (fewest self.old.meters.stores) month power months) result (metered self.new) }
+        ensures unopened { OpenStaysAsLent meters self.old (meter_opening (fewest self.old.meters.stores) month power months) result self.new }
     {
         let period = self.may_open(month, power, months)?;
         self.meters.open(month)?;
@@ -86,6 +89,7 @@ impl<'a> Metering<'a> {
         ensures state { metered self.new ≡ leaves (machine metering) (enter sums) (metered self.old) }
         ensures slots { EachAccounted (is_ok result) self.old.meters.stores self.new.meters.stores }
         ensures promised { Keeps metering (metered self.old) (enter_event sums result) (metered self.new) }
+        ensures unopened { StaysAsLent meters self.old (enter_event sums result) self.new }
     {
         // A match, since a refusal hands the sums back and an accepted enter strikes them: `map_err` would take them for both.
         match self.take_in(&sums) {
@@ -123,6 +127,7 @@ impl<'a> Metering<'a> {
         ensures lines { lines.new ≡ settle_lines metering (R.Rule.gives rule.now) (metered self.old) lines.old }
         ensures slots { EachAccounted (is_ok result) self.old.meters.stores self.new.meters.stores }
         ensures promised { Keeps metering (metered self.old) (event (settle (R.Rule.gives rule.now) (length lines.old)) result) (metered self.new) }
+        ensures unopened { StaysAsLent meters self.old (event (settle (R.Rule.gives rule.now) (length lines.old)) result) self.new }
     {
         let next = self.may_settle(FEWEST_LINES, lines.len())?;
         let before = self.meters.lefts();
@@ -145,6 +150,7 @@ impl<'a> Metering<'a> {
         ensures state { metered self.new ≡ leaves (machine metering) turn (metered self.old) }
         ensures slots { EachAccounted (is_ok result) self.old.meters.stores self.new.meters.stores }
         ensures promised { Keeps metering (metered self.old) (event turn result) (metered self.new) }
+        ensures unopened { StaysAsLent meters self.old (event turn result) self.new }
     {
         let next = self.may_turn()?;
         let ended = self.meters.turn()?;

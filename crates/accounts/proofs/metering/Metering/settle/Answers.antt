@@ -1,4 +1,4 @@
-use Rattle.std.proofs.Common.{rules, ◌≡◌, ℕ, ◌-◌, Ok, length, sym, ap, ◌∙◌, arith}
+use Rattle.std.proofs.Common.{rules, true, refl, ◌≡◌, ℕ, ◌-◌, Ok, length, sym, ap, ◌∙◌, arith}
 use Rattle.portions.specs.Listed.{listed}
 use Rattle.store.proofs.Lawful.{lawful_rule}
 use Rattle.settlement.specs.Zones.{all, each, each_two}
@@ -10,9 +10,12 @@ use Rattle.settlement.specs.Accounts.Call.{settle}
 use Rattle.settlement.specs.Metering.{metering, meter_lines, settlement, settling_meter}
 use Rattle.settlement.proofs.Metered.{metering_keeps}
 use Rattle.settlement.proofs.Keeps.{keeps_call}
-use Rattle.accounts.specs.Metered.{course, metered}
+use Rattle.settlement.proofs.Unopened.{metering_shut}
+use Rattle.accounts.specs.Metered.{course, metered, meters}
+use Rattle.accounts.specs.Slots.{EachAccounted}
 use Rattle.accounts.proofs.Refused.{accepted, refused}
 use Rattle.accounts.proofs.Meters.{answer_is, settling_is}
+use Rattle.accounts.proofs.Unopened.{each_same_slots, stays}
 use Rattle.accounts.proofs.metering.Metering.settle.Goals as goal
 
 pub returns-in_err-next : goal.returns-in_err-next
@@ -31,13 +34,14 @@ returns-in_err-next g c =
       lines = same.1;
       slots = search rules;
       promised = keeps_call metering metering_keeps a a (settle rule (length lines)) law c.from_residual.result left.0 left.1;
+      unopened = stays meters metering_shut c.args.self.now _ (settle rule (length lines)) law c.from_residual.result left.0 left.1 (λ e. refl);
     }
 
 pub invariant_of-self-3-clause-free : goal.invariant_of-self-3-clause-free
 invariant_of-self-3-clause-free g c =
     let rule = g.R.Rule.gives c.args.rule.now in
     let ok = accepted (refusal metering (settle rule (length c.args.lines.now)) (metered c.args.self.now)) Settled c.in_ok-next.next c.in_ok-next.ensures in
-    λ waiting. let no : Waiting ≡ Settled = sym waiting ∙ ok.1 in let z : ◌≡◌ {A = ℕ} 0 1 = cc in absurd (omega arith)
+    λ waiting. let both : Waiting ≡ Settled = sym waiting ∙ ok.1 in let z : ◌≡◌ {A = ℕ} 0 1 = cc in absurd (omega arith)
 
 pub returns : goal.returns
 returns g c =
@@ -56,10 +60,12 @@ returns g c =
     let settled = settling_is rule a end c.cover_all.ensures.course _ _ _ c.cover_all.ensures.ready.0 ok.1 none in
     let gave = ap Ok answer ∙ ap (λ o. answers o (settlement rule a)) ok.0 in
     let left = settled ∙ ap (λ o. becomes o (settling_meter rule a) a) ok.0 in
+    let slots : EachAccounted true c.args.self.now.meters.stores c.cover_all.new.self.stores = search rules in
     record {
       answer = gave;
       state = left;
       lines = written' ∙ ap (λ o. becomes o (written (meter_lines rule a) lines) lines) ok.0;
-      slots = search rules;
+      slots = slots;
       promised = keeps_call metering metering_keeps a _ (settle rule (length lines)) law (Ok (record { covered = c.zip_with.result; due = end.rests; lines = c.write-count.result })) gave left;
+      unopened = stays meters metering_shut c.args.self.now _ (settle rule (length lines)) law (Ok (record { covered = c.zip_with.result; due = end.rests; lines = c.write-count.result })) gave left (each_same_slots _ _ _ slots);
     }
