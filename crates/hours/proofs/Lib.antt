@@ -7,3 +7,4 @@ pub mod Months
 pub mod Closing
 pub mod Summed
 pub mod Packed
+pub mod Alike

@@ -45,15 +45,15 @@ left_as_asked G t y s (r ∷ rs) =
     ∙ sym (asked_first G t.month.number y.hours (needs_price (hours_of t) y.hours r.import r.export) (questions_of G t at rs) s)
 
 -- what holds of all questions holds of the first, if there is one, and of the others
-first_of : (P : ℕ → Type 0) (b : Bool) (k : ℕ) (ks : List ℕ) → All P (and_at b k ks) → b ≡ true → P k
+pub first_of : (P : ℕ → Type 0) (b : Bool) (k : ℕ) (ks : List ℕ) → All P (and_at b k ks) → b ≡ true → P k
 first_of P true k ks a h = All-head P k ks a
 first_of P false k ks a h = absurd (false≢true h)
 
-others_of : (P : ℕ → Type 0) (b : Bool) (k : ℕ) (ks : List ℕ) → All P (and_at b k ks) → All P ks
+pub others_of : (P : ℕ → Type 0) (b : Bool) (k : ℕ) (ks : List ℕ) → All P (and_at b k ks) → All P ks
 others_of P true k ks a = All-tail P k ks a
 others_of P false k ks a = a
 
-by_bool : {A : Type 0} (b : Bool) → (b ≡ true → A) → (b ≡ false → A) → A
+pub by_bool : {A : Type 0} (b : Bool) → (b ≡ true → A) → (b ≡ false → A) → A
 by_bool true p q = p refl
 by_bool false p q = q refl
 

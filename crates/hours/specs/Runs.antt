@@ -1,13 +1,14 @@
--- Readings that a book is given one after the other.
-use Rattle.std.specs.Prelude.{◌≡◌, ℕ, List, [], ◌∷◌, fold, Result}
+-- Readings that a book is given one after the other, and what they learn of its price source.
+use Rattle.std.specs.Prelude.{◌≡◌, ℕ, List, [], ◌∷◌, ℤ, None, fold, Option, Result}
 use Rattle.faults.specs.declared.BookFault.{BookFault}
 use Rattle.hours.specs.Reading.{hours_of, needs_price, answer, after}
 use Rattle.hours.specs.Source.{next_reading, next_state, asked_for, GiveAlike}
-use Rattle.hours.specs.Whole.{and_at}
+use Rattle.hours.specs.Whole.{MonthSummed, and_at, month_questions, month_refusal}
 use Rattle.hours.specs.declared.prices.PriceSource.{Ghosts}
 use Rattle.hours.specs.declared.book.Reading.{Reading}
 use Rattle.hours.specs.declared.book.Terms.{Terms}
 use Rattle.hours.specs.declared.book.Tally.{Tally}
+use Rattle.hours.specs.declared.sums.Totals.{Totals}
 
 module _ {S : Type 0} (G : Ghosts S) (t : Terms) where
   -- the tally and the source after one reading more
@@ -41,3 +42,15 @@ LeftAsAsked G = (t : Terms) (y : Tally) (s : G.State) (rs : List Reading) → (r
 -- a book learns of its source only what it asks: two sources that give the same where one is asked make no difference
 abbrev pub OnlyAnswersMatter : {S T : Type 0} → Ghosts S → Ghosts T → Type 0
 OnlyAnswersMatter G H = (t : Terms) (y : Tally) (s : G.State) (s' : H.State) (rs : List Reading) → GiveAlike G H s s' t.month.number (questions_of G t (y, s) rs) → EndAlike G H t y s s' rs
+
+-- a month that is summed up alike at two prices for each place: with the same refusal, the same questions and, where nothing is refused, the same sums
+pub record SummedAlike (m : ℕ) (marks : List (List ℕ)) (sale : List ℕ) (prices prices' : ℕ → Option ℤ) (rs : List Reading) : Type 0 where
+  pub refusal : month_refusal m marks sale prices rs ≡ month_refusal m marks sale prices' rs
+  pub questions : month_questions m marks sale prices rs ≡ month_questions m marks sale prices' rs
+  pub sums : month_refusal m marks sale prices rs ≡ None → (month : ℕ) (totals : Totals) → MonthSummed m marks sale prices rs month totals → MonthSummed m marks sale prices' rs month totals
+
+-- the same of a whole month
+abbrev pub OnlyAnswersMatterInMonth : {S T : Type 0} → Ghosts S → Ghosts T → Type 0
+OnlyAnswersMatterInMonth G H =
+    (m : ℕ) (marks : List (List ℕ)) (sale : List ℕ) (s : G.State) (s' : H.State) (rs : List Reading)
+    → GiveAlike G H s s' m (month_questions m marks sale (G.gives s m) rs) → SummedAlike m marks sale (G.gives s m) (H.gives s' m) rs

@@ -1,7 +1,7 @@
 // From meter readings to the sums of a month: price sources, the month book and the sums that it is finished into.
 #![tactic(auto)]
 
-ghost use Rattle.hours.specs.Runs.{LeftAsAsked, OnlyAnswersMatter};
+ghost use Rattle.hours.specs.Runs.{LeftAsAsked, OnlyAnswersMatter, OnlyAnswersMatterInMonth};
 ghost use Rattle.hours.specs.Source.{AskingChangesNone};
 
 mod book;
@@ -29,7 +29,9 @@ pub fn readings_leave_as_asked<S: PriceSource>()
     ensures { LeftAsAsked S.PriceSource }
 {}
 
-// A book learns of a price source only what it asks: a list of readings ends alike with any two that give the same where one is asked.
+// A book learns of a price source only what it asks: readings end alike, and a month is summed up alike, with any two that give the
+// same where one is asked.
 pub fn only_answers_matter<S: PriceSource, T: PriceSource>()
-    ensures { OnlyAnswersMatter S.PriceSource T.PriceSource }
+    ensures readings { OnlyAnswersMatter S.PriceSource T.PriceSource }
+    ensures month { OnlyAnswersMatterInMonth S.PriceSource T.PriceSource }
 {}

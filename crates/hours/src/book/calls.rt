@@ -1,5 +1,5 @@
 // Opening a book, reading hours into it and finishing it.
-ghost use Rattle.std.specs.Prelude.{◌≡◌, ◌+◌, ◌*◌, ◌<◌, ◌≤◌, true, List, [], IfOk, Some, None, Ok, Err, pos, negsuc, ◌≤ℤ◌};
+ghost use Rattle.std.specs.Prelude.{◌≡◌, ◌+◌, ◌*◌, ◌<◌, ◌≤◌, true, List, [], IfOk, Some, None, Ok, Err};
 ghost use Rattle.hours.specs.Balance.{balance, energy_given, energy_taken};
 ghost use Rattle.hours.specs.Price.{Ranged, positive};
 ghost use Rattle.hours.specs.Zones.{zone_number};
@@ -17,12 +17,11 @@ use crate::zones::Zone;
 use calendar::Month;
 use faults::BookFault;
 
-// Import − export of an hour, in Wh: what it took from the grid, or, where it is negative, gave to it. A larger reading is refused
-// before there is one.
+// Import − export of an hour, in Wh: what it took from the grid, or, where it is negative, gave to it. Neither is over
+// 100,000 Wh: a larger reading is refused before.
 #[derive(Clone, Copy)]
 struct Balance {
     net: i32,
-    ghost small: { (negsuc 99999 ≤ℤ net) × (net ≤ℤ pos 100000) },
 }
 
 impl Reading {
@@ -57,7 +56,7 @@ impl Balance {
     fn given(self) -> u32
         ensures { result ≡ energy_given self.net }
     {
-        (-self.net).max(0) as u32
+        self.net.min(0).unsigned_abs()
     }
 }
 
