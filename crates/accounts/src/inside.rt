@@ -17,8 +17,8 @@ use portions::rules::Rule;
 use portions::{FIRST_MONTH, Kind, LAST_MONTH};
 use store::Store;
 
-// The most portions that a store of an account has open: a month's and those of the twelve months before it. A store needs
-// so many slots, and a settlement so many lines for each store.
+// The most portions that a store of an account has open: a month's and those of the twelve months before it. A settlement needs
+// so many lines for each store.
 pub(crate) const MOST_PORTIONS: usize = 13;
 
 // Refuses a month for which no account may be opened.

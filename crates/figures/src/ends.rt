@@ -8,7 +8,7 @@ use portions::deposit::Deposit;
 use portions::energy::Energy;
 use portions::oldest_first::OldestFirst;
 use portions::{Kind, Slot};
-use settlement::Line;
+use settlement::{Account, Line};
 use std::alloc::{AllocError, Global};
 use store::Store;
 

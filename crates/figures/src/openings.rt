@@ -3,7 +3,7 @@ use crate::Figure;
 use accounts::{Billing, Metering};
 use faults::AccountFault;
 use portions::Slot;
-use settlement::Standing;
+use settlement::{Account, Standing};
 use std::alloc::{AllocError, Global};
 
 // What a metering account is opened for: how many slots each zone has, at most 13, the month, the power and the months of a period.

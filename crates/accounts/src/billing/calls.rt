@@ -124,8 +124,7 @@ impl<'a> Billing<'a> {
         Ok(payment)
     }
 
-    // Turns the store to the next month: the refunds and losses, summed. The lines are those of a metering account over one store;
-    // a trait of both accounts would have no caller that is generic.
+    // Turns the store to the next month: the refunds and losses, summed.
     pub fn turn(&mut self) -> Result<(u64, u64), AccountFault>
         ensures answer { result ≡ gives (machine billing) turn (billed self.old) }
         ensures state { billed self.new ≡ leaves (machine billing) turn (billed self.old) }
