@@ -4,21 +4,17 @@ use Rattle.faults.specs.declared.StoreFault.{StoreFault}
 use Rattle.faults.specs.declared.StoreFault.TheVariants.{TooFewSlots, NotOpen, MonthOutOfRange, AmountTooLarge, MonthTaken, WantedTooLarge, LastMonth}
 use Rattle.histories.specs.Machines.{asks}
 use Rattle.ledger.specs.Kinds.{Kind}
-use Rattle.ledger.specs.Rules.{Rule, Draw, LawfulRule}
+use Rattle.ledger.specs.Rules.{Draw, LawfulRule}
 use Rattle.ledger.specs.Ledger.{Ledger, has}
 
 -- a call with its arguments; an opening is of a store that has so many slots
 pub data Call (T : Type 0) : Type 0 where
   open_for : (slots : ℕ) (month : ℕ) → Call T
   enter : (amount : ℕ) (terms : T) → Call T
-  draw : (d : Draw) → Call T
+  draw : (asked : Draw) → Call T
   turn : Call T
 
 module _ {T : Type 0} where
-  -- a draw of an amount by a rule
-  abbrev pub draw_by : Rule → ℕ → Call T
-  draw_by rule wanted = draw (record { rule = rule; wanted = wanted })
-
   -- what an accepted call answers
   abbrev pub Answer : Call T → Type 0
   Answer (draw d) = ℕ

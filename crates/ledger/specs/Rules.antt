@@ -7,10 +7,14 @@ use Rattle.portions.specs.Sums.{sum}
 abbrev pub Rule : Type 0
 Rule = ℕ → List ℕ → ℕ → List ℕ
 
--- what a draw is given: the rule that it goes by, and the amount wanted
+-- a draw, as it is asked for: the rule that it goes by, and the amount wanted
 pub record Draw : Type 0 where
   pub rule : Rule
   pub wanted : ℕ
+
+-- one by this rule, of so much
+abbrev pub by_rule : Rule → ℕ → Draw
+by_rule rule wanted = record { rule = rule; wanted = wanted }
 
 -- the law of rules, for no more portions than can be open: a taking for each, none more than its portion's amount left, and
 -- together the smaller of the amount wanted and the total left

@@ -2,7 +2,7 @@
 use Rattle.std.proofs.Common.{◌≡◌, ℕ, true, false, cond, eqb, List, [], ◌∷◌, ◌++◌, refl, ◌∙◌, arith}
 use Rattle.histories.proofs.Runs.{brought_there}
 use Rattle.ledger.specs.Rules as rules
-use Rattle.ledger.specs.Rules.{Rule}
+use Rattle.ledger.specs.Rules.{Rule, by_rule}
 use Rattle.ledger.specs.History as store
 use Rattle.ledger.specs.Totals as store_totals
 use Rattle.settlement.specs.Accepted.{NoneRefused}
@@ -20,14 +20,14 @@ module _ {O A S Z T : Type 0} (works : Workings O A S Z T) where
     past_draws f same [] = refl
     past_draws f same (c ∷ cs) =
         let ih = past_draws f same cs in
-        elim (eqb (works.place c.from) (works.place z)) as (λ b. f (cond b (store.drew (record { rule = rule; wanted = c.wanted }) c.used ∷ draws_on works z rule cs) (draws_on works z rule cs) ++ calls) ≡ f calls)
-        [ true ↦ same (record { rule = rule; wanted = c.wanted }) c.used (draws_on works z rule cs ++ calls) ∙ ih | false ↦ ih ]
+        elim (eqb (works.place c.from) (works.place z)) as (λ b. f (cond b (store.drew (by_rule rule c.wanted) c.used ∷ draws_on works z rule cs) (draws_on works z rule cs) ++ calls) ≡ f calls)
+        [ true ↦ same (by_rule rule c.wanted) c.used (draws_on works z rule cs ++ calls) ∙ ih | false ↦ ih ]
 
     draws_accepted : (cs : List (Covering Z)) → NoneRefused calls → NoneRefused (draws_on works z rule cs ++ calls)
     draws_accepted [] none = none
     draws_accepted (c ∷ cs) none =
         let ih = draws_accepted cs none in
-        elim (eqb (works.place c.from) (works.place z)) as (λ b. NoneRefused (cond b (store.drew (record { rule = rule; wanted = c.wanted }) c.used ∷ draws_on works z rule cs) (draws_on works z rule cs) ++ calls)) [ true ↦ (tt, ih) | false ↦ ih ]
+        elim (eqb (works.place c.from) (works.place z)) as (λ b. NoneRefused (cond b (store.drew (by_rule rule c.wanted) c.used ∷ draws_on works z rule cs) (draws_on works z rule cs) ++ calls)) [ true ↦ (tt, ih) | false ↦ ih ]
 
   module _ (o : O) (z : Z) where
     -- the calls on a store enter what the enters have for it

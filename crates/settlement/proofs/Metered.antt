@@ -6,7 +6,7 @@ use Rattle.portions.specs.Sums.{total, sum}
 use Rattle.histories.specs.Histories.{Always}
 use Rattle.histories.proofs.Runs.{brought_there, Leads, holds}
 use Rattle.ledger.specs.Kinds.{LawfulKind}
-use Rattle.ledger.specs.Rules.{Rule, LawfulRule}
+use Rattle.ledger.specs.Rules.{Rule, LawfulRule, by_rule}
 use Rattle.ledger.specs.Ledger as ledger
 use Rattle.ledger.specs.Ledger.{Ledger, left_in, lefts, has}
 use Rattle.ledger.specs.Steps as store_steps
@@ -125,7 +125,7 @@ module _ (o : MeterOpening) (m : ℕ) (h : Calls) (rule : Rule) (law : LawfulRul
       let so_far : Zone → ℕ → ℕ = λ z k. took metering o h rule z ds k in
       let less_here : Less (λ k. taken_from k takes stock.portions + so_far from k) before drawn.portions = less_taking (so_far from) 0 takes before stock.portions (rising from) (within law stock.month (lefts stock) (wanted c rest) few_here) (st.less from) in
       record {
-        had = put_either (λ b z s. store.Had energy o.month (cond b (store.drew (record { rule = rule; wanted = wanted c rest }) (sum takes) ∷ draws_on metering z rule ds) (draws_on metering z rule ds) ++ store_calls metering o z h) s) from drawn course.stores
+        had = put_either (λ b z s. store.Had energy o.month (cond b (store.drew (by_rule rule (wanted c rest)) (sum takes) ∷ draws_on metering z rule ds) (draws_on metering z rule ds) ++ store_calls metering o z h) s) from drawn course.stores
             (had_draw energy o.month (now from) stock (st.had from) rule law (wanted c rest) (wanted_small c rest low high (st.few zone))) st.had;
         months = put_holds (λ z s. s.month ≡ m) from drawn course.stores (st.months from) st.months;
         few = λ z. omega (arith, cover_rests rule law c (omega arith) zone from course z, st.few z);

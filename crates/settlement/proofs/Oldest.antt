@@ -8,7 +8,7 @@ use Rattle.portions.specs.Totals.{total_parts}
 use Rattle.histories.specs.Histories.{Always}
 use Rattle.histories.proofs.Runs.{brought_there}
 use Rattle.ledger.specs.Kinds.{LawfulKind}
-use Rattle.ledger.specs.Rules.{Rule}
+use Rattle.ledger.specs.Rules.{Rule, by_rule}
 use Rattle.ledger.specs.Ledger.{Ledger, lefts}
 use Rattle.ledger.specs.Steps as store_steps
 use Rattle.ledger.specs.Steps.{takings}
@@ -39,14 +39,14 @@ module _ {O A S Z T : Type 0} (works : Workings O A S Z T) (o : O) where
     draws_went (c ∷ cs) each went = go (eqb (works.place c.from) (works.place z)) refl (draws_went cs each.1 went)
       where
         go : (b : Bool) → eqb (works.place c.from) (works.place z) ≡ b → store_best.WentOldestFirst works.kind m₀ (after cs) →
-            store_best.WentOldestFirst works.kind m₀ (cond b (store.drew (record { rule = rule; wanted = c.wanted }) c.used ∷ draws_on works z rule cs) (draws_on works z rule cs) ++ store_calls works o z h)
+            store_best.WentOldestFirst works.kind m₀ (cond b (store.drew (by_rule rule c.wanted) c.used ∷ draws_on works z rule cs) (draws_on works z rule cs) ++ store_calls works o z h)
         go true e ih = (each.0 (eqb-true (works.place c.from) (works.place z) e), ih)
         go false e ih = ih
 
     -- a store that has had a settlement's draws has had each of them after the others
     draws_had : (c : Covering Z) (cs : List (Covering Z)) (s : Ledger T) → store.Had works.kind m₀ (after (c ∷ cs)) s → (s' : Ledger T) × store.Had works.kind m₀ (after cs) s'
     draws_had c cs s = elim (eqb (works.place c.from) (works.place z))
-        as (λ b. store.Had works.kind m₀ (cond b (store.drew (record { rule = rule; wanted = c.wanted }) c.used ∷ draws_on works z rule cs) (draws_on works z rule cs) ++ store_calls works o z h) s → (s' : Ledger T) × store.Had works.kind m₀ (after cs) s')
+        as (λ b. store.Had works.kind m₀ (cond b (store.drew (by_rule rule c.wanted) c.used ∷ draws_on works z rule cs) (draws_on works z rule cs) ++ store_calls works o z h) s → (s' : Ledger T) × store.Had works.kind m₀ (after cs) s')
         [ true ↦ (λ had. (had.0, had.1)) | false ↦ (λ had. (s, had)) ]
 
     -- a rule that goes oldest first in the month reached makes them do so

@@ -4,7 +4,7 @@ use Rattle.std.proofs.lemmas.Bool.{le-leb, lt-ltb, ne_eqb}
 use Rattle.portions.specs.Sums.{sum}
 use Rattle.portions.specs.Portions.{Portion}
 use Rattle.ledger.specs.Kinds.{Kind}
-use Rattle.ledger.specs.Rules.{Rule, LawfulRule}
+use Rattle.ledger.specs.Rules.{Rule, LawfulRule, by_rule}
 use Rattle.ledger.specs.Ledger.{Ledger, has}
 use Rattle.ledger.specs.Calls.{refusal}
 use Rattle.ledger.specs.Calls.Call.{enter, draw, turn}
@@ -29,9 +29,9 @@ module _ {T : Type 0} (kind : Kind T) (m₀ : ℕ) (calls : History T) (s : Ledg
       let none' : refusal kind (enter amount terms) s ≡ None = simp (is_open, le-leb amount 100000000 small, free) in
       (s, had, (none', refl, refl, tt))
 
-  pub had_draw : (rule : Rule) → LawfulRule rule → (w : ℕ) → w ≤ 1000000000 → Had kind m₀ (drew (record { rule = rule; wanted = w }) (sum (takings rule w s)) ∷ calls) (drawing (takings rule w s) s)
+  pub had_draw : (rule : Rule) → LawfulRule rule → (w : ℕ) → w ≤ 1000000000 → Had kind m₀ (drew (by_rule rule w) (sum (takings rule w s)) ∷ calls) (drawing (takings rule w s) s)
   had_draw rule law w small =
-      let none' : refusal kind (draw (record { rule = rule; wanted = w })) s ≡ None = simp (is_open, le-leb w 1000000000 small) in
+      let none' : refusal kind (draw (by_rule rule w)) s ≡ None = simp (is_open, le-leb w 1000000000 small) in
       (s, had, (none', refl, refl, law))
 
   pub had_turn : s.month < 1199 → Had kind m₀ (turned (refunds kind s) (losses kind s) ∷ calls) (turning kind s)

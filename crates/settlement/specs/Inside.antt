@@ -1,7 +1,7 @@
 -- The calls that an account makes on its stores, read off its own calls.
 use Rattle.std.specs.Prelude.{cond, List, [], ◌∷◌, ◌++◌, ◌==◌}
 use Rattle.histories.specs.Histories as histories
-use Rattle.ledger.specs.Rules.{Rule}
+use Rattle.ledger.specs.Rules.{Rule, by_rule}
 use Rattle.ledger.specs.Ledger.{Ledger}
 use Rattle.ledger.specs.Steps.{refunds, losses}
 use Rattle.ledger.specs.History as store
@@ -17,7 +17,7 @@ module _ {O A S Z T : Type 0} (works : Workings O A S Z T) where
   abbrev pub draws_on : Z → Rule → List (Covering Z) → store.History T
   draws_on z rule [] = []
   draws_on z rule (c ∷ cs) =
-      cond (works.place c.from == works.place z) (store.drew (record { rule = rule; wanted = c.wanted }) c.used ∷ draws_on z rule cs) (draws_on z rule cs)
+      cond (works.place c.from == works.place z) (store.drew (by_rule rule c.wanted) c.used ∷ draws_on z rule cs) (draws_on z rule cs)
 
   -- the calls on the store of z that an event means, where the account is at a: a refused call means none
   abbrev pub calls_in : O → Z → A → Event O S → store.History T

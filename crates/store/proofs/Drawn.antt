@@ -9,7 +9,7 @@ use Rattle.portions.specs.Slots.{reads, plain}
 use Rattle.portions.specs.Totals.{total_map}
 use Rattle.histories.specs.Machines.{gives, leaves, answers, becomes}
 use Rattle.ledger.specs.Calls.Call.{draw}
-use Rattle.ledger.specs.Rules.{Rule, LawfulRule}
+use Rattle.ledger.specs.Rules.{Rule, LawfulRule, by_rule}
 use Rattle.ledger.specs.Ledger.{has, left_in, lefts}
 use Rattle.ledger.specs.Calls.{draw_refusal}
 use Rattle.ledger.specs.Steps.{machine, taking, takings, drawing}
@@ -100,11 +100,11 @@ module _ {K T : Type 0} {k : Ghosts K T} (s : Store K T k) (rule : Rule) (law : 
         )
 
     -- where nothing refuses it, a draw takes what the rule gives
-    pub drawn_answer : draw_refusal w (ledger_of k s) ≡ None → Ok n ≡ gives (machine (kind_of k)) (draw (record { rule = rule; wanted = w })) (ledger_of k s)
+    pub drawn_answer : draw_refusal w (ledger_of k s) ≡ None → Ok n ≡ gives (machine (kind_of k)) (draw (by_rule rule w)) (ledger_of k s)
     drawn_answer none = ap Ok (summed ∙ ap sum gave) ∙ ap (λ x. answers x (sum (takings rule w (ledger_of k s)))) (sym none)
 
     pub drawn_after : draw_refusal w (ledger_of k s) ≡ None → (totals' : Totals) → totals' ≡ more_used s.totals n →
-        read_off k rows' s.opened s.month totals' ≡ leaves (machine (kind_of k)) (draw (record { rule = rule; wanted = w })) (ledger_of k s)
+        read_off k rows' s.opened s.month totals' ≡ leaves (machine (kind_of k)) (draw (by_rule rule w)) (ledger_of k s)
     drawn_after none totals' counted =
         let l = ledger_of k s in
         let o = (draw_met w l none).is_open in

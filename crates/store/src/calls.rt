@@ -2,8 +2,8 @@ ghost use Rattle.std.specs.Prelude.{◌≡◌, [], is_ok};
 ghost use Rattle.ledger.specs.Ledger.{closed};
 ghost use Rattle.histories.specs.Machines.{gives, leaves};
 ghost use Rattle.histories.specs.Histories.{event};
-ghost use Rattle.ledger.specs.Calls.{draw_by};
-ghost use Rattle.ledger.specs.Calls.Call.{open_for, enter, turn};
+ghost use Rattle.ledger.specs.Rules.{by_rule};
+ghost use Rattle.ledger.specs.Calls.Call.{open_for, enter, draw, turn};
 ghost use Rattle.ledger.specs.Steps.{machine};
 ghost use Rattle.ledger.specs.Promises.{Keeps, OpenKeeps};
 ghost use Rattle.store.specs.Held.{lent, room};
@@ -68,11 +68,11 @@ impl<'a, K: Kind> Store<'a, K> {
 
     // Takes what the rule gives: the sum taken. Rule and amount are a draw's two arguments, a generic and a number, so no struct of them.
     pub fn draw<R: Rule>(&mut self, rule: &R, wanted: u32) -> Result<u64, StoreFault>
-        ensures answer { result ≡ gives (machine (kind_of K.Kind)) (draw_by (R.Rule.gives rule.now) wanted) (ledger_of K.Kind self.old) }
-        ensures state { ledger_of K.Kind self.new ≡ leaves (machine (kind_of K.Kind)) (draw_by (R.Rule.gives rule.now) wanted) (ledger_of K.Kind self.old) }
+        ensures answer { result ≡ gives (machine (kind_of K.Kind)) (draw (by_rule (R.Rule.gives rule.now) wanted)) (ledger_of K.Kind self.old) }
+        ensures state { ledger_of K.Kind self.new ≡ leaves (machine (kind_of K.Kind)) (draw (by_rule (R.Rule.gives rule.now) wanted)) (ledger_of K.Kind self.old) }
         ensures slots { Accounted (is_ok result) self.old self.new }
-        ensures promised { Keeps (kind_of K.Kind) (ledger_of K.Kind self.old) (event (draw_by (R.Rule.gives rule.now) wanted) result) (ledger_of K.Kind self.new) }
-        ensures unopened { StaysAsLent self.old (draw_by (R.Rule.gives rule.now) wanted) result self.new }
+        ensures promised { Keeps (kind_of K.Kind) (ledger_of K.Kind self.old) (event (draw (by_rule (R.Rule.gives rule.now) wanted)) result) (ledger_of K.Kind self.new) }
+        ensures unopened { StaysAsLent self.old (draw (by_rule (R.Rule.gives rule.now) wanted)) result self.new }
     {
         self.may_draw(wanted)?;
         let left = self.lefts();

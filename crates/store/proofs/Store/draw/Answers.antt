@@ -1,4 +1,5 @@
 use Rattle.std.proofs.Common.{ap, ◌∙◌, rules}
+use Rattle.ledger.specs.Rules.{by_rule}
 use Rattle.ledger.specs.Calls.Call.{draw}
 use Rattle.ledger.proofs.Keeps.{keeps}
 use Rattle.store.specs.Reading.{kind_of, ledger_of}
@@ -46,7 +47,7 @@ returns g c =
     let gives = g.R.Rule.gives r in
     let lawful_gives = lawful_rule gives (rule.sized r) (rule.bounded r) (rule.full r) in
     let w = c.args.wanted in
-    let call = draw (record { rule = gives; wanted = w }) in
+    let call = draw (by_rule gives w) in
     let gave = c.give-takings.ensures ∙ ap (λ ls. gives s.month ls w) c.lefts-left.ensures in
     let e = c.take_each.ensures in
     let none = accepted _ _ _ c.in_ok-may_draw.ensures in
