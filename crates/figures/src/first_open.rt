@@ -7,11 +7,11 @@ ghost use Rattle.figures.specs.FirstOpen.{first_open, UnlawfulBeyond, as_oldest}
 
 use crate::Figure;
 use faults::StoreFault;
-use portions::Slot;
 use portions::amounts::Amounts;
 use portions::energy::Energy;
 use portions::oldest_first::OldestFirst;
 use portions::rules::Rule;
+use portions::{Kind, Slot};
 use store::Store;
 
 // Takes oldest first, and of amounts beyond those that can be open nothing, not even a taking of 0.
@@ -37,12 +37,11 @@ fn unlawful_beyond()
     ensures { UnlawfulBeyond }
 {}
 
-// Thirteen portions of 100, and all but 50 drawn.
+// A portion of 100 of the opening's month and of each month of its life, thirteen in all, and all but 50 drawn.
 fn draw_thirteen(store: &mut Store<Energy>) -> Result<u64, StoreFault> {
     store.open(75)?;
     store.enter(100, ())?;
-    // Twelve turns: a count, and no index.
-    for _ in 0..12 {
+    for _ in 0..Energy::LIFE {
         store.turn()?;
         store.enter(100, ())?;
     }
