@@ -1,4 +1,5 @@
 ghost use Rattle.std.specs.Prelude.{◌≤◌, length};
+ghost use Rattle.portions.specs.declared.TheConstants.{MOST_OPEN};
 
 use portions::Slot;
 
@@ -12,5 +13,5 @@ pub struct Rows<'a> {
     pub(crate) slots: &'a mut [Slot],
     pub(crate) filled: usize,
     ghost within: { filled ≤ length slots.now },
-    ghost few: { filled ≤ 16 },
+    ghost few: { filled ≤ MOST_OPEN },
 }

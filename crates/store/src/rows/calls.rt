@@ -1,6 +1,7 @@
 ghost use Rattle.std.specs.Prelude.{◌≡◌, ◌+◌, ◌<◌, ◌≤◌, true, map, length, drop, slice_set};
 ghost use Rattle.ledger.specs.Ledger.{has, left_in};
 ghost use Rattle.ledger.specs.Steps.{taking};
+ghost use Rattle.portions.specs.declared.TheConstants.{MOST_OPEN};
 ghost use Rattle.portions.specs.Slots.{reads, plain};
 ghost use Rattle.portions.specs.Listed.{listed};
 ghost use Rattle.store.specs.Held.{held};
@@ -31,7 +32,7 @@ impl<'a> Rows<'a> {
     // Takes the next slot into use.
     pub(crate) fn push(&mut self, row: Slot)
         requires free { self.old.filled < length self.old.slots.now }
-        requires few { self.old.filled < 16 }
+        requires few { self.old.filled < MOST_OPEN }
         ensures slots { self.new.slots.now ≡ slice_set self.old.slots.now self.old.filled row }
         ensures filled { self.new.filled ≡ self.old.filled + 1 }
         ensures same { self.new.slots.ghost_name ≡ self.old.slots.ghost_name }

@@ -1,6 +1,7 @@
 ghost use Rattle.std.specs.Prelude.{◌≡◌, ◌≤◌, true, map, length, take, drop, filter};
 ghost use Rattle.ledger.specs.Ledger.{has};
 ghost use Rattle.ledger.specs.Steps.{ends_by, stays_in, taking};
+ghost use Rattle.portions.specs.declared.TheConstants.{MOST_OPEN};
 ghost use Rattle.portions.specs.Sums.{total};
 ghost use Rattle.portions.specs.Slots.{reads, plain};
 ghost use Rattle.portions.specs.Portions.{less};
@@ -43,9 +44,9 @@ pub(super) fn how_many_end(rows: &[Slot], life: u16, month: u16) -> usize
     rows.partition_point(|row| ends_by(row, life, month))
 }
 
-// The refunds and the losses of the portions in the rows, of which there are at most 16, summed.
+// The refunds and the losses of the portions in the rows in use, summed.
 pub(super) fn end_each<K: Kind>(rows: &[Slot]) -> Ended
-    requires { length rows.now ≤ 16 }
+    requires { length rows.now ≤ MOST_OPEN }
     ensures refunded { result.refunded ≡ total (refund_in K.Kind) rows.now }
     ensures lost { result.lost ≡ total (loss_in K.Kind) rows.now }
 {
@@ -59,9 +60,9 @@ pub(super) fn end_each<K: Kind>(rows: &[Slot]) -> Ended
     Ended { refunded, lost }
 }
 
-// The amounts left in the rows, of which there are at most 16.
+// The amounts left in the rows in use.
 pub(super) fn lefts<K: Kind>(rows: &[Slot]) -> Amounts
-    requires { length rows.now ≤ 16 }
+    requires { length rows.now ≤ MOST_OPEN }
     ensures { listed result ≡ map (λ p. p.left) (map (reads K.Kind.term) rows.now) }
 {
     let mut all = Amounts::new();
