@@ -5,7 +5,7 @@ use Rattle.calendar.specs.declared.month.days.Hour.{Hour}
 use Rattle.calendar.specs.Sums.{sum_to}
 use Rattle.calendar.specs.Calendar.{weekday, is_last_sunday, days_of_month, days_before_month}
 use Rattle.calendar.specs.Even.{place_if_even}
-use Rattle.calendar.specs.Hour.{HourAt, OneHour, hour_of_place, hour_of, day_at, clock_at, day_from, hours_at_change, day_hours, hours_before, month_hours, clock_hour}
+use Rattle.calendar.specs.Hour.{HourAt, OneHour, hour_of_place, hour_of, day_at, day_from, hours_at_change, day_hours, hours_before, month_hours, clock_hour}
 
 -- a month has one last Sunday
 pub only : (m s d : ℕ) → T (is_last_sunday m s) → s < days_of_month m → d < days_of_month m → is_last_sunday m d ≡ eqb d s

@@ -10,12 +10,13 @@ use faults::BookFault;
 use hours::{Book, HourPrices, MonthPrice, MonthSums, Reading, StandIn, Tariff, Unfinished};
 use records::{NextReading, next_reading};
 
-// An open book: its month, its readings, and its hour prices over its month price.
+// An open book: its month, its hour prices over its month price, and its readings. The book stands last: it writes to a zone's sums
+// by an index, and what stands before them is read once for a stretch of readings.
 #[derive(Drop)]
 pub struct OpenBook {
     month: u16,
-    book: Book,
     prices: StandIn<Option<HourPrices>, Option<MonthPrice>>,
+    book: Book,
 }
 
 // Why a book is not finished, and the book as it was, over an open book what the hours' `Unfinished` is over a book: one generic

@@ -1,5 +1,5 @@
 -- A month at two prices for each place, which are the same wherever the source is asked.
-use Rattle.std.proofs.Common.{◌≡◌, ℕ, zero, suc, ◌+◌, ◌*◌, ◌<◌, ◌≤◌, Bool, true, false, cond, leb, ltb, List, [], ◌∷◌, length, All, ℤ, Some, None, Option, sym, refl, ap, ◌∙◌, subst, arith}
+use Rattle.std.proofs.Common.{◌≡◌, ℕ, suc, ◌*◌, Bool, true, false, cond, leb, ltb, List, [], ◌∷◌, length, All, ℤ, Some, None, Option, refl, ap, ◌∙◌, subst, arith}
 use Rattle.std.proofs.lemmas.Bool.Decides.{nat_tests}
 use Rattle.std.specs.Option.{option_or}
 use Rattle.calendar.specs.Hour.{month_hours}
@@ -12,7 +12,7 @@ use Rattle.hours.specs.Opening.{book_open_refusal}
 use Rattle.hours.specs.Price.{worth}
 use Rattle.hours.specs.Reading.{needs_price, read_refusal, too_large, unpriced}
 use Rattle.hours.specs.Runs.{SummedAlike}
-use Rattle.hours.specs.Whole.{hours_from, refused_at, refused_from, missing, month_refusal, until_refused, and_at, questions_from, month_questions}
+use Rattle.hours.specs.Whole.{hours_from, refused_at, refused_from, missing, until_refused, and_at, questions_from, month_questions}
 use Rattle.hours.specs.declared.book.Reading.{Reading}
 use Rattle.hours.specs.declared.whole.MonthRefused.{MonthRefused}
 use Rattle.hours.proofs.Balance.{none_given}

@@ -107,11 +107,7 @@ joined_free t y i e g g' h =
     ap (λ (x : ℕ). record { hours = y.hours + 1; totals = record { import = (joined t y i e g).totals.import; export = (joined t y i e g).totals.export; charge = (joined t y i e g).totals.charge; value = x } })
     (v (worth g) ∙ sym (v (worth g')))
 
--- no price does as well as any
-pub at_no_price : (t : Terms) (y : Tally) (i e : ℕ) (g : Option ℤ) → e ≤ i → reading t y i e None ≡ reading t y i e g
-at_no_price t y i e g h = let n = none_given i e h in grind (arith, nat_tests)
-
--- nor does any matter where none is needed
+-- where no price is needed, an hour is read alike at any
 same_unless : (large complete priced : Bool) (g g' : Option ℤ) (y y' : Tally) → cond large false (cond complete false priced) ≡ false → (priced ≡ false → y ≡ y')
     → unless (cond large (Some ReadingTooLarge) (cond complete (Some BookComplete) (cond priced (unpriced g) None))) y
     ≡ unless (cond large (Some ReadingTooLarge) (cond complete (Some BookComplete) (cond priced (unpriced g') None))) y'

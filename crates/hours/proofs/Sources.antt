@@ -1,14 +1,12 @@
 -- What a price source gives once it was asked, and what a list of readings learns of it.
-use Rattle.std.proofs.Common.{◌≡◌, ℕ, ◌≤◌, Bool, true, false, cond, leb, List, [], ◌∷◌, All, ℤ, Some, None, Ok, Err, Option, Result, sym, refl, ap, ap₂, ◌∙◌, inl, inr}
+use Rattle.std.proofs.Common.{◌≡◌, ℕ, Bool, true, false, cond, List, [], ◌∷◌, All, sym, refl, ap, ap₂, ◌∙◌}
 use Rattle.std.proofs.lemmas.Bool.{false≢true}
-use Rattle.std.proofs.lemmas.Bool.Decides.{leb_tells}
 use Rattle.std.proofs.lemmas.List.Elements.{All-head, All-tail}
 use Rattle.hours.specs.Reading.{hours_of, needs_price, reading, answer, after}
 use Rattle.hours.specs.Runs.{read_next, read_each, answers_to, questions_of, EndAlike, LeftAsAsked, OnlyAnswersMatter}
 use Rattle.hours.specs.Source.{next_price, next_reading, next_state, asked_for, AskingChangesNone, GiveAlike}
 use Rattle.hours.specs.Whole.{and_at}
 use Rattle.hours.specs.declared.prices.PriceSource.{Ghosts}
-use Rattle.hours.specs.declared.book.Reading.{Reading}
 use Rattle.hours.specs.declared.book.Terms.{Terms}
 use Rattle.hours.specs.declared.book.Tally.{Tally}
 use Rattle.hours.proofs.History.{unneeded_alike}

@@ -1,9 +1,8 @@
-use Rattle.std.proofs.Common.{◌≡◌, ◌-◌, None, neg_ℤ, sym, ap, ◌∙◌, rules}
+use Rattle.std.proofs.Common.{◌≡◌, None, sym, ap, ◌∙◌, rules}
 use Rattle.std.proofs.lemmas.Option.{none-some}
 use Rattle.hours.specs.Balance.{balance, energy_given, energy_taken}
 use Rattle.hours.specs.Price.{worth}
 use Rattle.hours.specs.Reading.{joined_at, read_refusal, hours_of}
-use Rattle.hours.proofs.Balance.{taken_is, given_is}
 use Rattle.hours.proofs.History.{accepted, joins}
 use Rattle.hours.proofs.book.Book.join.Goals as goal
 use Rattle.hours.proofs.book.Book.join.Goals.{in-Some, in-None-2}

@@ -1,8 +1,8 @@
-use Rattle.std.proofs.Common.{◌≡◌, Err, ap, ◌∙◌, refl, rules}
+use Rattle.std.proofs.Common.{◌≡◌, None, Err, ap, ◌∙◌, refl, rules}
 use Rattle.std.proofs.lemmas.Result.{err_from_is_err_and}
 use Rattle.hours.specs.Reading.{reading}
 use Rattle.hours.specs.Source.{next_price, next_state}
-use Rattle.hours.proofs.History.{at_no_price}
+use Rattle.hours.proofs.History.{unneeded_alike}
 use Rattle.hours.proofs.Calls.{reading_comes, refusal_comes, if_asked, if_unasked, needed, not_needed, unneeded}
 use Rattle.hours.proofs.book.Book.read.Goals as goal
 use Rattle.hours.proofs.book.Book.read.Goals.{then-reading, else-reading}
@@ -31,7 +31,7 @@ returns g c =
     let z = c.in_ok-zone.ensures in
     let same : reading t y i e c.if-reading.price ≡ reading t y i e (next_price G s t y) = elim c.if-reading.branch [
       | then-reading w ↦ ap (reading t y i e) (search rules)
-      | else-reading w ↦ ap (reading t y i e) w.price-is ∙ at_no_price t y i e (next_price G s t y) w.if-reading.false
+      | else-reading w ↦ ap (reading t y i e) w.price-is ∙ unneeded_alike t y i e None (next_price G s t y) (unneeded t y i e _ z w.if-reading.false)
     ] in
     let asked : G.state c.if-reading.source ≡ next_state G s t y i e = elim c.if-reading.branch [
       | then-reading w ↦
