@@ -8,7 +8,7 @@ use Rattle.ledger.specs.Rules.{Rule, LawfulRule}
 use Rattle.ledger.specs.Ledger.{left_in}
 use Rattle.settlement.specs.Accounts.{Workings, refusal, machine}
 use Rattle.settlement.specs.Accounts.Call.{settle}
-use Rattle.settlement.specs.History.{Event, History, Had, settled}
+use Rattle.settlement.specs.History.{Event, History, Had, settled, unsettled}
 use Rattle.settlement.specs.Coverings.{covered_in, used_for, used_from, Lawful}
 use Rattle.settlement.specs.Told.{TellsLines}
 use Rattle.settlement.specs.Settled.{used_before, used_after, IsWhatItsCoveringsComeTo, SettledRightly, AllSettledRightly}
@@ -47,13 +47,20 @@ module _ {O A S Z T : Type 0} (works : Workings O A S Z T) where
             omega (arith, all, shown.for_zones, rise);
       }
 
-  module _ (shown : (o : O) (h : History O S) (a : A) → Had works o h a → (rule : Rule) → LawfulRule rule → (lines : ℕ) → refusal works (settle rule lines) a ≡ None → Shown o h a rule) where
+  module _ (pending_told : (o : O) (h : History O S) (a : A) → Had works o h a → (z : Z) → works.pending a z ≡ unsettled (λ sums. works.demand sums z) h)
+      (shown : (o : O) (h : History O S) (a : A) → Had works o h a → (rule : Rule) → LawfulRule rule → (lines : ℕ) → refusal works (settle rule lines) a ≡ None → Shown o h a rule) where
     settled_rightly : (o : O) (h : History O S) (e : Event O S) (a : A) → Had works o (e ∷ h) a → SettledRightly works o h e
     settled_rightly o h (settled rule lines answer) a had =
         let was = had.0 in
         let s = shown o h was had.1 rule had.2.3 lines had.2.0 in
-        subst (λ x. IsWhatItsCoveringsComeTo works o x rule answer × TellsLines works o h x rule answer) (sym (at_there works o h was had.1))
-        (subst (λ y. IsWhatItsCoveringsComeTo works o was rule y × TellsLines works o h was rule y) (sym had.2.1) (comes_to o h was rule s, s.lines))
+        let there = at_there works o h was had.1 in
+        let done : IsWhatItsCoveringsComeTo works o was rule answer × TellsLines works o h was rule answer =
+        subst (λ y. IsWhatItsCoveringsComeTo works o was rule y × TellsLines works o h was rule y) (sym had.2.1) (comes_to o h was rule s, s.lines) in
+        record {
+          comes_to = subst (λ x. IsWhatItsCoveringsComeTo works o x rule answer) (sym there) done.0;
+          owed = λ z. done.0.due_is z ∙ pending_told o h was had.1 z;
+          told = subst (λ x. TellsLines works o h x rule answer) (sym there) done.1;
+        }
     settled_rightly o h _ a had = tt
 
     pub all_settled : (o : O) (h : History O S) (a : A) → Had works o h a → AllSettledRightly works o h

@@ -5,16 +5,17 @@ use Rattle.portions.specs.Sums.{total}
 use Rattle.ledger.specs.Rules.{Rule}
 use Rattle.ledger.specs.Ledger.{left_in}
 use Rattle.settlement.specs.Accounts.{Workings}
-use Rattle.settlement.specs.History.{Event, History, settled}
+use Rattle.settlement.specs.History.{Event, History, settled, unsettled}
 use Rattle.settlement.specs.Inside.{at}
 use Rattle.settlement.specs.Coverings.{used_for, used_from, covered_in, Lawful}
 use Rattle.settlement.specs.Told.{TellsLines}
 
 module _ {O A S Z T : Type 0} (works : Workings O A S Z T) where
-  -- what the store of z has used in all, before and after a settlement by this rule at a
+  -- what the store of z has used in all where the account is at a
   abbrev pub used_before : A → Z → ℕ
   used_before a z = (works.store a z).used
 
+  -- and after a settlement by this rule there
   abbrev pub used_after : Rule → A → Z → ℕ
   used_after rule a z = (works.store (works.settling rule a) z).used
 
@@ -38,10 +39,16 @@ module _ {O A S Z T : Type 0} (works : Workings O A S Z T) where
     pub rise_at_par : works.tenths o ≡ 10 →
         total (used_before a) works.zones + total (works.covered answer) works.zones ≡ total (used_after rule a) works.zones
 
-  -- an accepted settlement after the calls h is that, and its lines tell it
+  -- a settlement by this rule that answers so, after the calls h
+  pub record Settles (o : O) (h : History O S) (rule : Rule) (answer : S) : Type 0 where
+    pub comes_to : IsWhatItsCoveringsComeTo o (at works o h) rule answer
+    -- what the enters not yet settled asked for is covered, or due
+    pub owed : (z : Z) → works.covered answer z + works.due answer z ≡ unsettled (λ sums. works.demand sums z) h
+    pub told : TellsLines works o h (at works o h) rule answer
+
+  -- an accepted settlement is so
   abbrev pub SettledRightly : O → History O S → Event O S → Type 0
-  SettledRightly o h (settled rule lines answer) =
-      IsWhatItsCoveringsComeTo o (at works o h) rule answer × TellsLines works o h (at works o h) rule answer
+  SettledRightly o h (settled rule lines answer) = Settles o h rule answer
   SettledRightly o h _ = Unit {0}
 
   -- every one is
