@@ -1,14 +1,22 @@
--- How money is rounded, how portions and periods end, and how much is covered.
-use Rattle.std.proofs.Common.{◌≡◌, ℕ, zero, suc, ◌+◌, ◌*◌, ◌%◌, ◌<◌, ◌/◌, min, get_or, eqb, ◌⊎◌, [], ◌∷◌, sym, refl, ap, ◌∙◌, arith}
+-- How money is rounded, how portions and periods end, how much is covered, and which zones and lines there are.
+use Rattle.std.proofs.Common.{◌≡◌, ℕ, zero, suc, ◌+◌, ◌*◌, ◌%◌, ◌<◌, ◌/◌, min, get_or, eqb, Contains, ◌⊎◌, [], ◌∷◌, sym, refl, ap, ◌∙◌, arith}
 use Rattle.std.proofs.lemmas.Bool.Decides.{nat_tests}
 use Rattle.std.proofs.lemmas.Bool.{eqb-true, eq-eqb}
 use Rattle.calendar.specs.Calendar.{calendar_month_of}
+use Rattle.portions.specs.Sums.{total}
+use Rattle.settlement.specs.Coverings.{counted_for}
 use Rattle.settlement.specs.Table.{ends, period_of}
 use Rattle.settlement.specs.Metering.{metering, or_monthly}
 use Rattle.settlement.specs.Rounding.{RoundsMoney}
 use Rattle.settlement.specs.Ending.{EndsPortions}
 use Rattle.settlement.specs.Year.{EndsPeriods}
 use Rattle.settlement.specs.Tenths.{GivesTenths}
+use Rattle.settlement.specs.Listed.{ListsZones}
+use Rattle.settlement.specs.Room.{AsksForLines}
+use Rattle.settlement.specs.Billing.{billing}
+use Rattle.hours.specs.Zones.{zone_number}
+use Rattle.hours.specs.declared.zones.Zone.{Zone}
+use Rattle.hours.specs.declared.zones.Zone.TheVariants.{First, Second, Third}
 
 pub rounds_money : RoundsMoney
 rounds_money = record {
@@ -67,3 +75,33 @@ ends_periods = record {
       );
   billed = λ o m. refl;
 }
+
+same_zone : (y z : Zone) → zone_number y ≡ zone_number z → y ≡ z
+same_zone First First e = refl
+same_zone First Second e = absurd (omega (arith, e))
+same_zone First Third e = absurd (omega (arith, e))
+same_zone Second First e = absurd (omega (arith, e))
+same_zone Second Second e = refl
+same_zone Second Third e = absurd (omega (arith, e))
+same_zone Third First e = absurd (omega (arith, e))
+same_zone Third Second e = absurd (omega (arith, e))
+same_zone Third Third e = refl
+
+has_zone : (z : Zone) → Contains metering.zones z
+has_zone First = (0, omega arith, refl)
+has_zone Second = (1, omega arith, refl)
+has_zone Third = (2, omega arith, refl)
+
+has_once : (z : Zone) → total (λ k. counted_for metering z k 1) metering.zones ≡ 1
+has_once First = refl
+has_once Second = refl
+has_once Third = refl
+
+pub lists_zones : ListsZones metering
+lists_zones = record { placed = same_zone; listed = has_zone; once = has_once }
+
+pub lists_one : ListsZones billing
+lists_one = record { placed = λ y z e. refl; listed = λ z. (0, omega arith, refl); once = λ z. refl }
+
+pub asks_for_lines : AsksForLines
+asks_for_lines = record { metered = refl; billed = refl; metered_room = refl; billed_room = refl }

@@ -25,4 +25,6 @@ pub mod Rounding
 pub mod Ending
 pub mod Year
 pub mod Tenths
+pub mod Listed
+pub mod Room
 pub mod Figures

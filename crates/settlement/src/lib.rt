@@ -11,6 +11,8 @@ ghost use Rattle.settlement.specs.Rounding.{RoundsMoney};
 ghost use Rattle.settlement.specs.Ending.{EndsPortions};
 ghost use Rattle.settlement.specs.Year.{EndsPeriods};
 ghost use Rattle.settlement.specs.Tenths.{GivesTenths};
+ghost use Rattle.settlement.specs.Listed.{ListsZones};
+ghost use Rattle.settlement.specs.Room.{AsksForLines};
 ghost use Rattle.histories.specs.Unopened.{UnopenedHaveHistories};
 ghost use Rattle.settlement.specs.Unopened.{ShutUntilOpened};
 
@@ -89,4 +91,15 @@ pub fn periods_end()
 // The tenths covered follow the power.
 pub fn tenths_follow_power()
     ensures { GivesTenths }
+{}
+
+// Every zone is listed once.
+pub fn zones_listed()
+    ensures metering { ListsZones metering }
+    ensures billing { ListsZones billing }
+{}
+
+// A settlement asks for room for every portion that can be open.
+pub fn lines_have_room()
+    ensures { AsksForLines }
 {}

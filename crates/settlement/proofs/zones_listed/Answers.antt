@@ -1,0 +1,5 @@
+use Rattle.settlement.proofs.Laws.{lists_zones, lists_one}
+use Rattle.settlement.proofs.zones_listed.Goals as goal
+
+pub returns : goal.returns
+returns c = record { metering = lists_zones; billing = lists_one }
