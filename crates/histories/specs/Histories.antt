@@ -1,4 +1,5 @@
--- Histories: the list of calls that a machine has had, refused ones among them, each with its arguments and answer; the newest first.
+-- Histories: the list of calls that a machine has had, the newest first, each with its arguments and answer; refused
+-- ones are among them.
 use Rattle.std.specs.Prelude.{◌≡◌, List, [], ◌∷◌, Some, None, Ok, Err, Result}
 use Rattle.histories.specs.Machines.{Machine}
 
@@ -20,7 +21,11 @@ call_of (refused call fault) = call
 module _ {O C S F : Type 0} {Answer : C → Type 0} (machine : Machine O C Answer S F) where
   -- at s the machine answers as the event says, and is at s' afterwards
   abbrev pub Does : S → Event C Answer F → S → Type 0
-  Does s (did call answer) s' = (machine.refusal call s ≡ None) × (answer ≡ machine.answer call s) × (s' ≡ machine.after call s) × machine.Follows call
+  Does s (did call answer) s' =
+      (machine.refusal call s ≡ None)
+      × (answer ≡ machine.answer call s)
+      × (s' ≡ machine.after call s)
+      × machine.Follows call
   Does s (refused call fault) s' = (machine.refusal call s ≡ Some fault) × (s' ≡ s)
 
   -- since it stood as said, the machine has had the calls h and is at s
@@ -43,7 +48,8 @@ module _ {O C S F : Type 0} {Answer : C → Type 0} (machine : Machine O C Answe
   Keeps Promised before e after = (o : O) (h : List (Event C Answer F)) → Had o h before → Promised o (e ∷ h) after
 
   -- an opening keeps it: an accepted one begins a history, and a refused one is a call like any other
-  abbrev pub OpenKeeps : (O → List (Event C Answer F) → S → Type 0) → S → O → (call : C) → Result (Answer call) F → S → Type 0
+  abbrev pub OpenKeeps :
+      (O → List (Event C Answer F) → S → Type 0) → S → O → (call : C) → Result (Answer call) F → S → Type 0
   OpenKeeps Promised before o call (Ok _) after = Promised o [] after
   OpenKeeps Promised before o call (Err fault) after = Keeps Promised before (refused call fault) after
 

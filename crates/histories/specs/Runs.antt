@@ -12,7 +12,8 @@ module _ {O C S F : Type 0} {Answer : C → Type 0} (machine : Machine O C Answe
   -- every list of calls after an opening has a history
   abbrev pub CallsHaveHistories : Type 0
   CallsHaveHistories =
-      (o : O) → machine.Opens o → (calls : List C) → Following calls → (h : List (Event C Answer F)) × (s : S) × (map call_of h ≡ calls) × Had machine o h s
+      (o : O) → machine.Opens o → (calls : List C) → Following calls →
+      (h : List (Event C Answer F)) × (s : S) × (map call_of h ≡ calls) × Had machine o h s
 
   -- a history decides where the machine stands
   abbrev pub HistoriesDecide : Type 0
@@ -20,4 +21,5 @@ module _ {O C S F : Type 0} {Answer : C → Type 0} (machine : Machine O C Answe
 
   -- what a history began with is a history
   abbrev pub BeginningsAreHistories : Type 0
-  BeginningsAreHistories = (o : O) (later h : List (Event C Answer F)) (s : S) → Had machine o (later ++ h) s → (s' : S) × Had machine o h s'
+  BeginningsAreHistories =
+      (o : O) (later h : List (Event C Answer F)) (s : S) → Had machine o (later ++ h) s → (s' : S) × Had machine o h s'

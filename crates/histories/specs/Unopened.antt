@@ -16,7 +16,9 @@ module _ {O C S F : Type 0} {Answer : C → Type 0} (machine : Machine O C Answe
 
   -- every list of such calls has a history
   abbrev pub UnopenedHaveHistories : Type 0
-  UnopenedHaveHistories = (calls : List C) → Refusing calls → (h : List (Event C Answer F)) × (s : S) × (map call_of h ≡ calls) × Unopened h s
+  UnopenedHaveHistories =
+      (calls : List C) → Refusing calls →
+      (h : List (Event C Answer F)) × (s : S) × (map call_of h ≡ calls) × Unopened h s
 
   module _ (By : C → F → Type 0) where
     -- the call was refused, by such a fault
@@ -24,7 +26,8 @@ module _ {O C S F : Type 0} {Answer : C → Type 0} (machine : Machine O C Answe
     Refused (did call answer) = ⊥
     Refused (refused call fault) = By call fault
 
-    -- the machine has had the calls h and was never opened: it stands as it was made, and has refused every one by such a fault
+    -- the machine has had the calls h and was never opened: it stands as it was made, and has refused every one by such
+    -- a fault
     pub record NeverOpened (h : List (Event C Answer F)) (s : S) : Type 0 where
       pub had : Unopened h s
       pub as_made : s ≡ made

@@ -19,13 +19,15 @@ abbrev pub History : Type 0 → Type 0
 History T = List (Event T)
 
 module _ {T : Type 0} where
-  -- the accepted calls
+  -- an accepted call: an enter of an amount on terms
   pattern abbrev pub entered : ℕ → T → Event T
   entered amount terms = did (enter amount terms) tt
 
+  -- a draw that answered what it took
   pattern abbrev pub drew : Draw → ℕ → Event T
   drew d answer = did (draw d) answer
 
+  -- a turn that answered what it refunded and lost
   pattern abbrev pub turned : ℕ → ℕ → Event T
   turned refunded lost = did turn (refunded, lost)
 

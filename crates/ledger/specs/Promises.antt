@@ -38,4 +38,5 @@ Keeps kind before event after = histories.Keeps (machine kind) (Promised kind) b
 -- an opening keeps it: one that is rightly accepted begins a history, and a refused one is a call like any other
 abbrev pub OpenKeeps : {T : Type 0} → Kind T → Ledger T → ℕ → ℕ → Result (Unit {0}) StoreFault → Ledger T → Type 0
 OpenKeeps kind before slots month result after =
-    OnOk result (OpenedRightly kind slots month) × histories.OpenKeeps (machine kind) (Promised kind) before month (open_for slots month) result after
+    OnOk result (OpenedRightly kind slots month)
+    × histories.OpenKeeps (machine kind) (Promised kind) before month (open_for slots month) result after

@@ -16,9 +16,12 @@ pub record Draw : Type 0 where
 abbrev pub by_rule : Rule → ℕ → Draw
 by_rule rule wanted = record { rule = rule; wanted = wanted }
 
--- the law of rules, for no more portions than can be open: a taking for each, none more than its portion's amount left, and
--- together the smaller of the amount wanted and the total left
+-- the law of rules, for no more portions than can be open: a taking for each, none more than its portion's amount
+-- left, and together the smaller of the amount wanted and the total left
 pub record LawfulRule (rule : Rule) : Type 0 where
-  pub sized : (month wanted : ℕ) (lefts : List ℕ) → length lefts ≤ MOST_OPEN → length (rule month lefts wanted) ≡ length lefts
-  pub bounded : (month wanted : ℕ) (lefts : List ℕ) → length lefts ≤ MOST_OPEN → (i : ℕ) → slice_index (rule month lefts wanted) i ≤ slice_index lefts i
-  pub full : (month wanted : ℕ) (lefts : List ℕ) → length lefts ≤ MOST_OPEN → sum (rule month lefts wanted) ≡ min wanted (sum lefts)
+  pub sized : (month wanted : ℕ) (lefts : List ℕ) → length lefts ≤ MOST_OPEN →
+      length (rule month lefts wanted) ≡ length lefts
+  pub bounded : (month wanted : ℕ) (lefts : List ℕ) → length lefts ≤ MOST_OPEN →
+      (i : ℕ) → slice_index (rule month lefts wanted) i ≤ slice_index lefts i
+  pub full : (month wanted : ℕ) (lefts : List ℕ) → length lefts ≤ MOST_OPEN →
+      sum (rule month lefts wanted) ≡ min wanted (sum lefts)

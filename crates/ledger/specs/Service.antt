@@ -19,7 +19,8 @@ module _ {T : Type 0} where
 
   -- in an accepted draw after the calls h the way takes what the rule gave
   abbrev pub OwnDraw : Kind T → ℕ → Way → History T → Event T → Type 0
-  OwnDraw kind m₀ way h (drew d answer) = (k : ℕ) → way (length h) k ≡ taken_from k (takings d.rule d.wanted (at kind m₀ h)) (at kind m₀ h).portions
+  OwnDraw kind m₀ way h (drew d answer) =
+      (k : ℕ) → way (length h) k ≡ taken_from k (takings d.rule d.wanted (at kind m₀ h)) (at kind m₀ h).portions
   OwnDraw kind m₀ way h _ = Unit {0}
 
   -- the way is the store's own: it does so in every accepted draw

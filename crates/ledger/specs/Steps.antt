@@ -92,4 +92,11 @@ module _ {T : Type 0} where
 
   -- a store of this kind, opened for a month, as a machine
   abbrev pub machine : Kind T → Machine ℕ (Call T) Answer (Ledger T) StoreFault
-  machine kind = record { Opens = λ m. (47 ≤ m) × (m ≤ 1199); opening = opening; Follows = Follows; refusal = refusal kind; answer = answer kind; after = after kind }
+  machine kind = record {
+    Opens = λ m. (47 ≤ m) × (m ≤ 1199);
+    opening = opening;
+    Follows = Follows;
+    refusal = refusal kind;
+    answer = answer kind;
+    after = after kind;
+  }

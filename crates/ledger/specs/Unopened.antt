@@ -23,6 +23,7 @@ module _ {T : Type 0} where
   abbrev pub Unopened : Kind T → History T → Ledger T → Type 0
   Unopened kind h s = histories.Unopened (machine kind) closed h s
 
-  -- then it stands as it was made, without portions and with totals 0, and has refused every call as one that is shut does
+  -- then it stands as it was made, without portions and with totals 0, and has refused every call as one that is shut
+  -- does
   abbrev pub NeverOpened : Kind T → History T → Ledger T → Type 0
   NeverOpened kind h s = histories.NeverOpened (machine kind) closed (Shut kind) h s

@@ -30,8 +30,8 @@ Follows (open_for opening) = ⊥
 Follows (settle rule lines) = LawfulRule rule
 Follows _ = Unit {0}
 
--- a covering: a settlement draws on the store of a zone for what is not yet covered in a zone, the rest, wants so much of it, uses
--- so much, and covers so much of the rest by that
+-- a covering: a settlement draws on the store of a zone for what is not yet covered in a zone, the rest, wants so much
+-- of it, uses so much, and covers so much of the rest by that
 pub record Covering (Z : Type 0) : Type 0 where
   pub zone : Z
   pub from : Z
@@ -105,4 +105,11 @@ module _ {O A S Z T : Type 0} (works : Workings O A S Z T) where
 
   -- an account as a machine
   abbrev pub machine : Machine O (Call O) (Answer S) A AccountFault
-  machine = record { Opens = λ opening. works.open_refusal opening ≡ None; opening = works.opening; Follows = Follows; refusal = refusal; answer = answer; after = after }
+  machine = record {
+    Opens = λ opening. works.open_refusal opening ≡ None;
+    opening = works.opening;
+    Follows = Follows;
+    refusal = refusal;
+    answer = answer;
+    after = after;
+  }

@@ -89,7 +89,14 @@ settling_bill rule b = record { opened = true; percentage = b.percentage; state 
 
 -- its one covering
 abbrev pub bill_covering : Rule → BillAccount → Covering (Unit {0})
-bill_covering rule b = record { zone = tt; from = tt; rest = b.bill; wanted = b.bill; used = sum (paid rule b); covers = sum (paid rule b) }
+bill_covering rule b = record {
+  zone = tt;
+  from = tt;
+  rest = b.bill;
+  wanted = b.bill;
+  used = sum (paid rule b);
+  covers = sum (paid rule b);
+}
 
 -- its lines
 abbrev pub bill_lines : Rule → BillAccount → List Line

@@ -9,13 +9,15 @@ module _ {O A S Z T : Type 0} (works : Workings O A S Z T) where
   abbrev pub counted_for : Z → Z → ℕ → ℕ
   counted_for z k amount = cond (works.place k == works.place z) amount 0
 
-  -- what coverings used for a zone, what they used from its store, and what they covered in it
+  -- what coverings used for a zone
   abbrev pub used_for : Z → List (Covering Z) → ℕ
   used_for z cs = total (λ (c : Covering Z). counted_for z c.zone c.used) cs
 
+  -- what they used from its store
   abbrev pub used_from : Z → List (Covering Z) → ℕ
   used_from z cs = total (λ (c : Covering Z). counted_for z c.from c.used) cs
 
+  -- and what they covered in it
   abbrev pub covered_in : Z → List (Covering Z) → ℕ
   covered_in z cs = total (λ (c : Covering Z). counted_for z c.zone c.covers) cs
 
@@ -48,7 +50,8 @@ module _ {O A S Z T : Type 0} (works : Workings O A S Z T) where
     -- the store's own zone is wholly covered
     pub own_zone_first : Covered a before c.from
     -- each lower store of the others has been emptied
-    pub lower_stores_first : (k : Z) → works.place k ≢ works.place c.zone → works.place k < works.place c.from → Emptied a before k
+    pub lower_stores_first :
+        (k : Z) → works.place k ≢ works.place c.zone → works.place k < works.place c.from → Emptied a before k
     -- each lower zone is wholly covered
     pub lower_zones_first : (k : Z) → works.place k < works.place c.zone → Covered a before k
 

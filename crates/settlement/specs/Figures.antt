@@ -32,29 +32,37 @@ with_sums tenths imports exports = record {
   stores = each (λ export. entering export tt (ledger.opening 97)) exports;
 }
 
--- what is due of one, what its settlement covers, and what it uses and leaves
+-- what the settlement of one leaves due in each zone
 abbrev pub due_of : MeterAccount → Zones ℕ
 due_of a = (settlement oldest_first a).due
 
+-- what it covers in each zone
 abbrev pub covered_of : MeterAccount → Zones ℕ
 covered_of a = (settlement oldest_first a).covered
 
+-- what it uses from each store
 abbrev pub used_of : MeterAccount → Zones ℕ
 used_of a = each (λ s. s.used) (settling_meter oldest_first a).stores
 
+-- and what it leaves in each store
 abbrev pub left_of : MeterAccount → Zones ℕ
 left_of a = each (λ s. left_in s.portions) (settling_meter oldest_first a).stores
 
 -- what the turn from a later month loses of it
 abbrev pub lost_from : ℕ → MeterAccount → ℕ
-lost_from m a = metering.losses (record a { stores = each (λ (s : Ledger (Unit {0})). record s { month = m }) a.stores })
+lost_from m a =
+    metering.losses (record a { stores = each (λ (s : Ledger (Unit {0})). record s { month = m }) a.stores })
 
--- the number by which an opening is refused, if by any: of a metering account, and of a billing account
+-- the number by which the opening of a metering account is refused, if it is
 abbrev pub meter_barred : (slots month power months : ℕ) → Option ℕ
-meter_barred slots month power months = option_map account_number (metering.open_refusal (record { slots = slots; month = month; power = power; months = months }))
+meter_barred slots month power months =
+    option_map account_number
+    (metering.open_refusal (record { slots = slots; month = month; power = power; months = months }))
 
+-- and that of a billing account
 abbrev pub bill_barred : (slots month percentage : ℕ) → Option ℕ
-bill_barred slots month percentage = option_map account_number (billing.open_refusal (record { slots = slots; month = month; percentage = percentage }))
+bill_barred slots month percentage =
+    option_map account_number (billing.open_refusal (record { slots = slots; month = month; percentage = percentage }))
 
 -- openings at each bound, and one past it
 pub record Openings : Type 0 where

@@ -21,13 +21,15 @@ abbrev pub History : Type 0 → Type 0 → Type 0
 History O S = List (Event O S)
 
 module _ {O S : Type 0} where
-  -- the accepted calls
+  -- an accepted call: an enter of a month's sums
   pattern abbrev pub entered : MonthSums → Event O S
   entered sums = did (enter sums) tt
 
+  -- a settlement by a rule into so many lines
   pattern abbrev pub settled : Rule → ℕ → S → Event O S
   settled rule lines answer = did (settle rule lines) answer
 
+  -- a turn that answered what it refunded and lost
   pattern abbrev pub turned : ℕ → ℕ → Event O S
   turned refunded lost = did turn (refunded, lost)
 

@@ -17,13 +17,16 @@ module _ {O A S Z T : Type 0} (works : Workings O A S Z T) where
   abbrev pub draws_on : Z → Rule → List (Covering Z) → store.History T
   draws_on z rule [] = []
   draws_on z rule (c ∷ cs) =
-      cond (works.place c.from == works.place z) (store.drew (by_rule rule c.wanted) c.used ∷ draws_on z rule cs) (draws_on z rule cs)
+      cond (works.place c.from == works.place z)
+      (store.drew (by_rule rule c.wanted) c.used ∷ draws_on z rule cs)
+      (draws_on z rule cs)
 
   -- the calls on the store of z that an event means, where the account is at a: a refused call means none
   abbrev pub calls_in : O → Z → A → Event O S → store.History T
   calls_in o z a (entered sums) = store.entered (works.stored sums z) (works.terms o sums) ∷ []
   calls_in o z a (settled rule lines answer) = draws_on z rule (works.coverings rule a)
-  calls_in o z a (turned refunded lost) = store.turned (refunds works.kind (works.store a z)) (losses works.kind (works.store a z)) ∷ []
+  calls_in o z a (turned refunded lost) =
+      store.turned (refunds works.kind (works.store a z)) (losses works.kind (works.store a z)) ∷ []
   calls_in o z a _ = []
 
   -- those that a history means

@@ -140,7 +140,8 @@ covering_at rule c zone from course = record {
 -- the coverings of several pairs, after others
 abbrev pub coverings : Rule → ℕ → List (Zone × Zone) → Course → List (Covering Zone) → List (Covering Zone)
 coverings rule c [] course before = before
-coverings rule c (pair ∷ pairs) course before = coverings rule c pairs (cover rule c pair.0 pair.1 course) (covering_at rule c pair.0 pair.1 course ∷ before)
+coverings rule c (pair ∷ pairs) course before =
+    coverings rule c pairs (cover rule c pair.0 pair.1 course) (covering_at rule c pair.0 pair.1 course ∷ before)
 
 -- where a settlement begins
 abbrev pub outset : MeterAccount → Course

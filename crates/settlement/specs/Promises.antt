@@ -20,7 +20,8 @@ use Rattle.settlement.specs.Best.{WentOldestFirst, HadOldestFirstRules, NoneBett
 use Rattle.settlement.specs.Refusals.{stands, OpenedRightly, AllRightly}
 
 module _ {O A S Z T : Type 0} (works : Workings O A S Z T) where
-  -- the store of a zone has had the calls that the account's own calls mean, and no others, and all that a store promises holds of them
+  -- the store of a zone has had the calls that the account's own calls mean, and no others, and all that a store
+  -- promises holds of them
   pub record StoreKeeps (o : O) (h : History O S) (a : A) (z : Z) (calls : store.History T) : Type 0 where
     pub promised : store_promise.Promised works.kind (works.own_month o) calls (works.store a z)
     -- what was entered into it is what the accepted enters had for it
@@ -47,7 +48,8 @@ module _ {O A S Z T : Type 0} (works : Workings O A S Z T) where
     pub pending_told : (z : Z) → works.pending a z ≡ unsettled (λ sums. works.demand sums z) h
     -- each store inside keeps the promise of stores
     pub stores : (z : Z) → StoreKeeps o h a z (store_calls works o z h)
-    -- what a settlement covers is drawn from the stores, as much as is wanted, and each zone in its turn; its lines tell what was drawn
+    -- what a settlement covers is drawn from the stores, as much as is wanted, and each zone in its turn; its lines
+    -- tell what was drawn
     pub settled : AllSettledRightly works o h
     -- what the turns refund and lose is what the stores do
     pub turns_told : TurnsTold works o h
@@ -67,4 +69,5 @@ module _ {O A S Z T : Type 0} (works : Workings O A S Z T) where
 
   -- an opening keeps it: an accepted one begins a history, and a refused one is a call like any other
   abbrev pub OpenKeeps : A → O → Result (Unit {0}) AccountFault → A → Type 0
-  OpenKeeps before opening result after = histories.OpenKeeps (machine works) Promised before opening (open_for opening) result after
+  OpenKeeps before opening result after =
+      histories.OpenKeeps (machine works) Promised before opening (open_for opening) result after

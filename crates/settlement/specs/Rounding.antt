@@ -3,7 +3,8 @@ use Rattle.std.specs.Prelude.{ℕ, ◌+◌, ◌*◌, ◌<◌, ◌≤◌}
 use Rattle.hours.specs.declared.sums.MonthSums.{MonthSums}
 use Rattle.settlement.specs.Billing.{BillOpening, billing}
 
--- n is the whole number nearest to a / d, and the larger where two are: a / d is from a half below it to less than a half above
+-- n is the whole number nearest to a / d, and the larger where two are: a / d is from a half below it to less than a
+-- half above
 pub record Nearest (n a d : ℕ) : Type 0 where
   pub from : 2 * (n * d) ≤ 2 * a + d
   pub below : 2 * a < 2 * (n * d) + d
@@ -19,4 +20,5 @@ pub record RoundsMoney : Type 0 where
   pub bill : (sums : MonthSums) → Nearest (billing.demand sums tt) sums.totals.charge 1000000
   pub deposit : (sums : MonthSums) → Nearest (billing.stored sums tt) (sums.totals.value * 123) (1000000 * 100)
   -- the cap of a refund is the largest within the percentage of the value
-  pub cap : (o : BillOpening) (sums : MonthSums) → Largest (billing.terms o sums) (sums.totals.value * o.percentage) (1000000 * 100)
+  pub cap : (o : BillOpening) (sums : MonthSums) →
+      Largest (billing.terms o sums) (sums.totals.value * o.percentage) (1000000 * 100)

@@ -31,13 +31,15 @@ module _ {O A S Z T : Type 0} (works : Workings O A S Z T) where
     -- each store has used so much more, and all of it for the zones
     pub risen : (z : Z) → used_after rule a z ≡ used_before a z + used_from works z (works.coverings rule a)
     pub for_zones :
-        total (λ z. used_for works z (works.coverings rule a)) works.zones ≡ total (λ z. used_from works z (works.coverings rule a)) works.zones
+        total (λ z. used_for works z (works.coverings rule a)) works.zones
+        ≡ total (λ z. used_from works z (works.coverings rule a)) works.zones
     -- so no more is covered in a zone than was paid for
     pub paid : (z : Z) → 10 * works.covered answer z ≤ used_for works z (works.coverings rule a) * works.tenths o
     -- where ten tenths are covered, all that was used is, and what is covered is what the stores have used more
     pub at_par : works.tenths o ≡ 10 → (z : Z) → works.covered answer z ≡ used_for works z (works.coverings rule a)
     pub rise_at_par : works.tenths o ≡ 10 →
-        total (used_before a) works.zones + total (works.covered answer) works.zones ≡ total (used_after rule a) works.zones
+        total (used_before a) works.zones + total (works.covered answer) works.zones
+        ≡ total (used_after rule a) works.zones
 
   -- a settlement by this rule that answers so, after the calls h
   pub record Settles (o : O) (h : History O S) (rule : Rule) (answer : S) : Type 0 where

@@ -27,7 +27,13 @@ module _ {O A S Z T : Type 0} (works : Workings O A S Z T) where
   -- the lines of the store of z for a settlement at a, after the calls h: one for each open portion, oldest first
   abbrev pub lines_for : O → History O S → A → Rule → Z → List Line
   lines_for o h a rule z =
-      map (λ (p : Portion T). record { zone = works.mark z; month = p.month; used = took o h rule z (works.coverings rule a) p.month; left = p.left })
+      map
+      (λ (p : Portion T). record {
+        zone = works.mark z;
+        month = p.month;
+        used = took o h rule z (works.coverings rule a) p.month;
+        left = p.left;
+      })
       (works.store (works.settling rule a) z).portions
 
   -- a settlement by this rule at a, after the calls h, tells them, zone by zone
@@ -35,4 +41,5 @@ module _ {O A S Z T : Type 0} (works : Workings O A S Z T) where
     pub told : works.lines rule a ≡ flat_map (lines_for o h a rule) works.zones
     pub counted : works.count answer ≡ length (works.lines rule a)
     -- and a zone's lines add up to what was used from its store
-    pub add_up : (z : Z) → total (λ (l : Line). l.used) (lines_for o h a rule z) ≡ used_from works z (works.coverings rule a)
+    pub add_up :
+        (z : Z) → total (λ (l : Line). l.used) (lines_for o h a rule z) ≡ used_from works z (works.coverings rule a)

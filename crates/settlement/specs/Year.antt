@@ -6,7 +6,9 @@ use Rattle.settlement.specs.Billing.{BillOpening, billing}
 
 -- a period of so many months ends with these months of the year, January 1 and December 12
 abbrev pub EndsWith : ℕ → List ℕ → Type 0
-EndsWith months ends = (o : MeterOpening) → o.months ≡ months → (m : ℕ) → (metering.ends_in o m ≡ true) ↔ Contains ends (calendar_month_of m)
+EndsWith months ends =
+    (o : MeterOpening) → o.months ≡ months →
+    (m : ℕ) → (metering.ends_in o m ≡ true) ↔ Contains ends (calendar_month_of m)
 
 -- the periods of metering accounts, and that of billing accounts
 pub record EndsPeriods : Type 0 where
