@@ -1,5 +1,5 @@
 -- How money is rounded, how portions and periods end, how much is covered, and which zones and lines there are.
-use Rattle.std.proofs.Common.{◌≡◌, ℕ, zero, suc, ◌+◌, ◌*◌, ◌%◌, ◌<◌, ◌/◌, min, get_or, eqb, Contains, ◌⊎◌, [], ◌∷◌, sym, refl, ap, ◌∙◌, arith}
+use Rattle.std.proofs.Common.{◌≡◌, ℕ, zero, suc, ◌+◌, ◌-◌, ◌*◌, ◌%◌, ◌<◌, ◌/◌, min, get_or, eqb, Contains, ◌⊎◌, [], ◌∷◌, sym, refl, ap, ◌∙◌, arith}
 use Rattle.std.proofs.lemmas.Bool.Decides.{nat_tests}
 use Rattle.std.proofs.lemmas.Bool.{eqb-true, eq-eqb}
 use Rattle.calendar.specs.Calendar.{calendar_month_of}
@@ -13,8 +13,10 @@ use Rattle.settlement.specs.Year.{EndsPeriods}
 use Rattle.settlement.specs.Tenths.{GivesTenths}
 use Rattle.settlement.specs.Listed.{ListsZones}
 use Rattle.settlement.specs.Room.{AsksForLines}
+use Rattle.settlement.specs.Entries.{TakesByZone}
 use Rattle.settlement.specs.Billing.{billing}
 use Rattle.hours.specs.Zones.{zone_number}
+use Rattle.hours.specs.declared.sums.MonthSums.{MonthSums}
 use Rattle.hours.specs.declared.zones.Zone.{Zone}
 use Rattle.hours.specs.declared.zones.Zone.TheVariants.{First, Second, Third}
 
@@ -105,3 +107,16 @@ lists_one = record { placed = λ y z e. refl; listed = λ z. (0, omega arith, re
 
 pub asks_for_lines : AsksForLines
 asks_for_lines = record { metered = refl; billed = refl; metered_room = refl; billed_room = refl }
+
+stored_of : (sums : MonthSums) (z : Zone) → metering.stored sums z ≡ get_or sums.totals.export (zone_number z - 1) 0
+stored_of sums First = refl
+stored_of sums Second = refl
+stored_of sums Third = refl
+
+pending_of : (sums : MonthSums) (z : Zone) → metering.demand sums z ≡ get_or sums.totals.import (zone_number z - 1) 0
+pending_of sums First = refl
+pending_of sums Second = refl
+pending_of sums Third = refl
+
+pub takes_by_zone : TakesByZone
+takes_by_zone = record { stored = stored_of; pending = pending_of }

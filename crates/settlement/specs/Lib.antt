@@ -27,4 +27,5 @@ pub mod Year
 pub mod Tenths
 pub mod Listed
 pub mod Room
+pub mod Entries
 pub mod Figures

@@ -13,6 +13,7 @@ ghost use Rattle.settlement.specs.Year.{EndsPeriods};
 ghost use Rattle.settlement.specs.Tenths.{GivesTenths};
 ghost use Rattle.settlement.specs.Listed.{ListsZones};
 ghost use Rattle.settlement.specs.Room.{AsksForLines};
+ghost use Rattle.settlement.specs.Entries.{TakesByZone};
 ghost use Rattle.histories.specs.Unopened.{UnopenedHaveHistories};
 ghost use Rattle.settlement.specs.Unopened.{ShutUntilOpened};
 
@@ -102,4 +103,9 @@ pub fn zones_listed()
 // A settlement asks for room for every portion that can be open.
 pub fn lines_have_room()
     ensures { AsksForLines }
+{}
+
+// A metering account stores each zone's export, and its import is pending.
+pub fn sums_go_by_zone()
+    ensures { TakesByZone }
 {}
