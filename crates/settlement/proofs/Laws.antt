@@ -11,7 +11,7 @@ use Rattle.settlement.specs.Rounding.{RoundsMoney}
 use Rattle.settlement.specs.Ending.{EndsPortions}
 use Rattle.settlement.specs.Year.{EndsPeriods}
 use Rattle.settlement.specs.Tenths.{GivesTenths}
-use Rattle.settlement.specs.Listed.{ListsZones}
+use Rattle.settlement.specs.Listed.{ListsZones, NamesZones}
 use Rattle.settlement.specs.Room.{AsksForLines}
 use Rattle.settlement.specs.Entries.{TakesByZone}
 use Rattle.settlement.specs.Billing.{billing}
@@ -120,3 +120,6 @@ pending_of sums Third = refl
 
 pub takes_by_zone : TakesByZone
 takes_by_zone = record { stored = stored_of; pending = pending_of }
+
+pub names_zones : NamesZones
+names_zones = record { place = λ z. refl; mark = λ z. refl; no_mark = refl }

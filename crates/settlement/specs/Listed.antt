@@ -1,8 +1,12 @@
--- The zones of an account are listed, each once.
-use Rattle.std.specs.Prelude.{◌≡◌, Contains}
+-- The zones of an account are listed, each once, and named as the tariff does.
+use Rattle.std.specs.Prelude.{◌≡◌, Contains, Some, None}
+use Rattle.hours.specs.declared.zones.Zone.{Zone}
+use Rattle.hours.specs.Zones.{zone_number}
 use Rattle.portions.specs.Sums.{total}
 use Rattle.settlement.specs.Accounts.{Workings}
 use Rattle.settlement.specs.Coverings.{counted_for}
+use Rattle.settlement.specs.Metering.{metering}
+use Rattle.settlement.specs.Billing.{billing}
 
 -- what holds of the zones of a sort of account
 pub record ListsZones {O A S Z T : Type 0} (works : Workings O A S Z T) : Type 0 where
@@ -11,3 +15,9 @@ pub record ListsZones {O A S Z T : Type 0} (works : Workings O A S Z T) : Type 0
   -- each is in the list, and only once
   pub listed : (z : Z) → Contains works.zones z
   pub once : (z : Z) → total (λ k. counted_for works z k 1) works.zones ≡ 1
+
+-- a metering account's zones stand in the order of their numbers, and mark their lines; a deposit's line has no zone
+pub record NamesZones : Type 0 where
+  pub place : (z : Zone) → metering.place z ≡ zone_number z
+  pub mark : (z : Zone) → metering.mark z ≡ Some z
+  pub no_mark : billing.mark tt ≡ None

@@ -11,7 +11,7 @@ ghost use Rattle.settlement.specs.Rounding.{RoundsMoney};
 ghost use Rattle.settlement.specs.Ending.{EndsPortions};
 ghost use Rattle.settlement.specs.Year.{EndsPeriods};
 ghost use Rattle.settlement.specs.Tenths.{GivesTenths};
-ghost use Rattle.settlement.specs.Listed.{ListsZones};
+ghost use Rattle.settlement.specs.Listed.{ListsZones, NamesZones};
 ghost use Rattle.settlement.specs.Room.{AsksForLines};
 ghost use Rattle.settlement.specs.Entries.{TakesByZone};
 ghost use Rattle.histories.specs.Unopened.{UnopenedHaveHistories};
@@ -94,10 +94,11 @@ pub fn tenths_follow_power()
     ensures { GivesTenths }
 {}
 
-// Every zone is listed once.
+// Every zone is listed once, and named as the tariff does.
 pub fn zones_listed()
     ensures metering { ListsZones metering }
     ensures billing { ListsZones billing }
+    ensures named { NamesZones }
 {}
 
 // A settlement asks for room for every portion that can be open.

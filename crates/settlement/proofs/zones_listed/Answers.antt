@@ -1,5 +1,5 @@
-use Rattle.settlement.proofs.Laws.{lists_zones, lists_one}
+use Rattle.settlement.proofs.Laws.{lists_zones, lists_one, names_zones}
 use Rattle.settlement.proofs.zones_listed.Goals as goal
 
 pub returns : goal.returns
-returns c = record { metering = lists_zones; billing = lists_one }
+returns c = record { metering = lists_zones; billing = lists_one; named = names_zones }
