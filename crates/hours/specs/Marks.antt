@@ -37,7 +37,9 @@ zone_kept m weekend clock = zone_in (cond weekend m.weekend m.working) clock
 abbrev pub rows_of : Marks → List (List ℕ)
 rows_of m = marks_of (zones_in m.working) ∷ marks_of (zones_in m.weekend) ∷ []
 
--- the marks are those of the two rows: unpacked, they are the rows again, and in either each clock hour has the zone that its mark names
+-- the marks are those of the two rows: unpacked, they are the rows again, and in either each clock hour has the zone that its
+-- mark names
 pub record MarkedBy (m : Marks) (rows : List (List ℕ)) : Type 0 where
   pub unpacked : rows_of m ≡ rows
-  pub named : (weekend : Bool) (clock : ℕ) → clock < 24 → zone_number (zone_kept m weekend clock) ≡ mark_at rows weekend clock
+  pub named : (weekend : Bool) (clock : ℕ) → clock < 24 →
+      zone_number (zone_kept m weekend clock) ≡ mark_at rows weekend clock

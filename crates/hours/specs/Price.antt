@@ -50,7 +50,8 @@ worth None = 0
 worth (Some price) = positive price
 
 -- a source over another is as it was where asking leaves each as it is
-pub still_pair : {A B : Type 0} (a : A) (b : B) (a' : A) (b' : B) (g : Option ℤ) → a' ≡ a → b' ≡ b → ◌≡◌ {A = A × B} (a', unless_some g b b') (a, b)
+pub still_pair : {A B : Type 0} (a : A) (b : B) (a' : A) (b' : B) (g : Option ℤ) →
+    a' ≡ a → b' ≡ b → ◌≡◌ {A = A × B} (a', unless_some g b b') (a, b)
 still_pair a b a' b' (Some z) p q = ap (λ x. (x, b)) p
 still_pair a b a' b' None p q = ap (λ x. (x, b')) p ∙ ap (λ y. (a, y)) q
 

@@ -16,7 +16,8 @@ hours_of t = month_hours t.month.number
 
 -- the zone of the hour at place p
 abbrev pub zone_at : Terms → ℕ → ℕ
-zone_at t p = zone_number (zone_kept t.marks (hour_of_place t.month.number p).weekend (hour_of_place t.month.number p).clock)
+zone_at t p =
+    zone_number (zone_kept t.marks (hour_of_place t.month.number p).weekend (hour_of_place t.month.number p).clock)
 
 -- the sale price of zone z, 1 to 3
 abbrev pub sale_price : List ℕ → ℕ → ℕ
@@ -42,7 +43,8 @@ grown z taken given sale price y =
 -- the next hour joined to the tally, its balance split by the sign
 abbrev pub joined_at : Terms → Tally → ℕ → ℕ → ℕ → Tally
 joined_at t y i e price =
-    grown (zone_at t y.hours) (energy_taken (balance i e)) (energy_given (balance i e)) (sale_price t.sale (zone_at t y.hours)) price y
+    grown
+    (zone_at t y.hours) (energy_taken (balance i e)) (energy_given (balance i e)) (sale_price t.sale (zone_at t y.hours)) price y
 
 -- the same at the price that the source gives
 abbrev pub joined : Terms → Tally → ℕ → ℕ → Option ℤ → Tally

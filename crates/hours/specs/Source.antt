@@ -29,7 +29,8 @@ asked_for G m places s = fold (λ a p. G.asked a m p) s places
 
 -- asking for places, however many, changes no later answer
 abbrev pub AskingChangesNone : {S : Type 0} → Ghosts S → Type 0
-AskingChangesNone G = (m : ℕ) (places : List ℕ) (s : G.State) (n q : ℕ) → G.gives (asked_for G m places s) n q ≡ G.gives s n q
+AskingChangesNone G =
+    (m : ℕ) (places : List ℕ) (s : G.State) (n q : ℕ) → G.gives (asked_for G m places s) n q ≡ G.gives s n q
 
 -- two sources give the same at each of the places of a month
 abbrev pub GiveAlike : {S T : Type 0} → (G : Ghosts S) (H : Ghosts T) → G.State → H.State → ℕ → List ℕ → Type 0
