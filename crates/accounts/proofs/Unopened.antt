@@ -20,7 +20,7 @@ use Rattle.settlement.specs.Steps.{hands_back, enter_answer}
 use Rattle.settlement.specs.History.{Event, enter_event}
 use Rattle.settlement.specs.Unopened.{NeverOpened, ShutUntilOpened}
 use Rattle.accounts.specs.Means.{EnergyStore}
-use Rattle.accounts.specs.Slots.{EachSame, EachAccounted}
+use Rattle.accounts.specs.Slots.{EachAccounted}
 use Rattle.accounts.specs.Unopened.{Sort, AsLent, StaysAsLent, OpenStaysAsLent}
 
 -- a refused call leaves the slots of a store as they were
@@ -35,10 +35,6 @@ module _ (s s' : Zones EnergyStore) where
   -- and of three
   pub each_same_slots : (accepted : Bool) → EachAccounted accepted s s' → accepted ≡ false → each lent s' ≡ each lent s
   each_same_slots accepted a e = each_lent (same_slots s.one s'.one accepted a.0 e) (same_slots s.two s'.two accepted a.1 e) (same_slots s.three s'.three accepted a.2 e)
-
-  -- so does an opening
-  pub each_opened : EachSame s s' → each lent s' ≡ each lent s
-  each_opened a = each_lent a.0.same a.1.same a.2.same
 
 -- an enter by what it gave
 as_event : {O S : Type 0} (sums : MonthSums) (o : Option AccountFault) → ◌≡◌ {A = Event O S} (enter_event sums (hands_back sums o)) (event (enter sums) (answers o tt))

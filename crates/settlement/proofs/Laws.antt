@@ -122,4 +122,4 @@ pub takes_by_zone : TakesByZone
 takes_by_zone = record { stored = stored_of; pending = pending_of }
 
 pub names_zones : NamesZones
-names_zones = record { place = λ z. refl; mark = λ z. refl; no_mark = refl }
+names_zones = record { place = λ z. refl; order = refl; mark = λ z. refl; no_mark = refl }

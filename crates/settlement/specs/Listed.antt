@@ -1,5 +1,5 @@
 -- The zones of an account are listed, each once, and named as the tariff does.
-use Rattle.std.specs.Prelude.{◌≡◌, Contains, Some, None}
+use Rattle.std.specs.Prelude.{◌≡◌, [], ◌∷◌, map, Contains, Some, None}
 use Rattle.hours.specs.declared.zones.Zone.{Zone}
 use Rattle.hours.specs.Zones.{zone_number}
 use Rattle.portions.specs.Sums.{total}
@@ -16,8 +16,10 @@ pub record ListsZones {O A S Z T : Type 0} (works : Workings O A S Z T) : Type 0
   pub listed : (z : Z) → Contains works.zones z
   pub once : (z : Z) → total (λ k. counted_for works z k 1) works.zones ≡ 1
 
--- a metering account's zones stand in the order of their numbers, and mark their lines; a deposit's line has no zone
+-- a metering account's zones have their numbers for places, are listed in their order, and mark their lines; a deposit's line has
+-- no zone
 pub record NamesZones : Type 0 where
   pub place : (z : Zone) → metering.place z ≡ zone_number z
+  pub order : map metering.place metering.zones ≡ 1 ∷ 2 ∷ 3 ∷ []
   pub mark : (z : Zone) → metering.mark z ≡ Some z
   pub no_mark : billing.mark tt ≡ None
