@@ -1,5 +1,5 @@
 -- Rows of zones in two bits each.
-use Rattle.std.proofs.Common.{◌≡◌, ℕ, zero, suc, ◌+◌, ◌*◌, ◌/◌, ◌%◌, ◌^◌, ◌<◌, ◌≤◌, Bool, true, false, List, [], ◌∷◌, length, get_or, drop, length-drop, sym, refl, ap, ◌∙◌, arith, drop-cons, add-one}
+use Rattle.std.proofs.Common.{◌≡◌, ℕ, zero, suc, ◌+◌, ◌-◌, ◌*◌, ◌/◌, ◌%◌, ◌^◌, ◌<◌, ◌≤◌, Bool, true, false, List, [], ◌∷◌, length, get_or, drop, length-drop, sym, refl, ap, ap₂, ◌∙◌, arith, drop-cons, add-one}
 use Rattle.std.proofs.lemmas.List.{get_or-map}
 use Rattle.std.proofs.lemmas.List.FromFn.{fill_by_all, get_or-map-range_with_len, length-map-range_with_len}
 use Rattle.std.proofs.lemmas.Nat.{shr-shr}
@@ -79,7 +79,7 @@ zone_at_place : (zs : List Zone) (c : ℕ) → zone_in (packed zs) c ≡ get_or 
 zone_at_place zs c = ap zone_of_bits (bits_at_place zs c) ∙ bits_stand (get_or zs c First)
 
 -- the zones of a packed row are those that were packed
-pub zones_packed : (zs : List Zone) → length zs ≡ 24 → zones_in (packed zs) ≡ zs
+zones_packed : (zs : List Zone) → length zs ≡ 24 → zones_in (packed zs) ≡ zs
 unfolding zones_in
 zones_packed zs l = sym (fill_by_all (λ c. zone_in (packed zs) c) zs 24 First l (λ k h. sym (zone_at_place zs k)))
 
@@ -90,13 +90,44 @@ mark_in bits c h =
     let l = length-map-range_with_len (λ k. zone_in bits k) 0 24 in
     sym (get_or-map zone_number (zones_in bits) c First 0 (omega arith) ∙ ap zone_number (get_or-map-range_with_len (λ k. zone_in bits k) 0 24 c c First h (omega arith)))
 
--- marks that unpack to two rows have the zones that these name
-pub marked_by : (m : Marks) (rows : List (List ℕ)) → rows_of m ≡ rows → MarkedBy m rows
-marked_by m rows e = record { unpacked = e; named = λ weekend c h. named weekend c h ∙ ap (λ x. mark_at x weekend c) e }
+-- what a row of marks is packed to, by the marks alone
+packed_marks : List ℕ → ℕ
+packed_marks [] = 0
+packed_marks (n ∷ ns) = n - 1 + 4 * packed_marks ns
+
+packed_by_marks : (zs : List Zone) → packed zs ≡ packed_marks (marks_of zs)
+unfolding packed packed_marks
+packed_by_marks [] = refl
+packed_by_marks (z ∷ zs) = ap (λ n. zone_bits z + 4 * n) (packed_by_marks zs)
+
+-- so zones that the same marks name are packed alike
+packed_alike : (xs ys : List Zone) → marks_of xs ≡ marks_of ys → packed xs ≡ packed ys
+packed_alike xs ys e = packed_by_marks xs ∙ ap packed_marks e ∙ sym (packed_by_marks ys)
+
+-- marks that are the zones of two rows, packed, are those of the rows
+pub marked_by : (m : Marks) (rows : List (List ℕ)) (working weekend : List Zone) → length working ≡ 24 → length weekend ≡ 24
+    → m.working ≡ packed working → m.weekend ≡ packed weekend → marks_of working ∷ marks_of weekend ∷ [] ≡ rows → MarkedBy m rows
+marked_by m rows working weekend l k p q e = record {
+  unpacked = unpacked;
+  numbers = λ xs ys r.
+      let same = e ∙ sym r in
+      (p ∙ packed_alike working xs (ap (λ x. get_or x 0 []) same), q ∙ packed_alike weekend ys (ap (λ x. get_or x 1 []) same));
+  named = λ weekend c h. named weekend c h ∙ ap (λ x. mark_at x weekend c) unpacked;
+}
   where
+    unpacked : rows_of m ≡ rows
+    unpacked = ap₂ (λ (x y : List Zone). marks_of x ∷ marks_of y ∷ []) (ap zones_in p ∙ zones_packed working l) (ap zones_in q ∙ zones_packed weekend k) ∙ e
+
     named : (weekend : Bool) (c : ℕ) → c < 24 → zone_number (zone_kept m weekend c) ≡ mark_at (rows_of m) weekend c
     named true c h = mark_in m.weekend c h
     named false c h = mark_in m.working c h
+
+-- marks of the same rows are the same numbers
+pub same_numbers : (m m' : Marks) (rows : List (List ℕ)) → MarkedBy m rows → MarkedBy m' rows → (m.working ≡ m'.working) × (m.weekend ≡ m'.weekend)
+same_numbers m m' rows a b =
+    let x = a.numbers (zones_in m'.working) (zones_in m'.weekend) b.unpacked in
+    let y = b.numbers (zones_in m'.working) (zones_in m'.weekend) b.unpacked in
+    (x.0 ∙ sym y.0, x.1 ∙ sym y.1)
 
 -- two rows, by their places
 pub both_rows : (rows : List (List ℕ)) → length rows ≡ 2 → get_or rows 0 [] ∷ get_or rows 1 [] ∷ [] ≡ rows

@@ -5,7 +5,7 @@ use Rattle.calendar.specs.Hour.{hour_of_place}
 use Rattle.faults.specs.declared.BookFault.{BookFault}
 use Rattle.faults.specs.declared.BookFault.TheVariants.{MarkOutOfRange}
 use Rattle.hours.specs.Zones.{names_zone, zone_number}
-use Rattle.hours.specs.Packed.{zone_in, zones_in}
+use Rattle.hours.specs.Packed.{packed, zone_in, zones_in}
 use Rattle.hours.specs.declared.marks.Marks.{Marks}
 use Rattle.hours.specs.declared.zones.Zone.{Zone}
 
@@ -37,9 +37,11 @@ zone_kept m weekend clock = zone_in (cond weekend m.weekend m.working) clock
 abbrev pub rows_of : Marks → List (List ℕ)
 rows_of m = marks_of (zones_in m.working) ∷ marks_of (zones_in m.weekend) ∷ []
 
--- the marks are those of the two rows: unpacked, they are the rows again, and in either each clock hour has the zone that its
--- mark names
+-- the marks are those of the two rows: unpacked, they are the rows again; their numbers are the zones that the rows name, packed,
+-- and no others stand for them, so the rows decide the numbers; and in either row each clock hour has the zone that its mark names
 pub record MarkedBy (m : Marks) (rows : List (List ℕ)) : Type 0 where
   pub unpacked : rows_of m ≡ rows
+  pub numbers : (working weekend : List Zone) → marks_of working ∷ marks_of weekend ∷ [] ≡ rows →
+      (m.working ≡ packed working) × (m.weekend ≡ packed weekend)
   pub named : (weekend : Bool) (clock : ℕ) → clock < 24 →
       zone_number (zone_kept m weekend clock) ≡ mark_at rows weekend clock
