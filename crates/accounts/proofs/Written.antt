@@ -25,7 +25,7 @@ line_there of (was ∷ before) (p ∷ ps) (suc i) z r le e = line_there of befor
 -- one line more, where those before it are written
 pub next_written : (d ls xs : List Line) (i : ℕ) (r : Line) → i < length d → i < length ls → ((z : Line) → get_or ls i z ≡ r) → xs ≡ paste d 0 ls i → slice_set xs i r ≡ paste d 0 ls (i + 1)
 next_written d ls xs i r in_d in_ls at so_far =
-    let z : Line = record { zone = None; month = 0; used = 0; left = 0 } in
+    let z : Line = record { zone = 0; month = 0; used = 0; left = 0 } in
     let more = paste_more d 0 ls i z (omega arith) in_ls in
     let there : 0 + i ≡ i = omega arith in
     let here = at z in

@@ -7,7 +7,7 @@ ghost use Rattle.store.specs.Reading.{ledger_of, told};
 
 use portions::Kind;
 use portions::amounts::Amounts;
-use settlement::{Line, Zone};
+use settlement::{Line, Zone, zone_number};
 use store::Store;
 
 // The line of a portion that had `was` left.
@@ -16,7 +16,7 @@ fn line<K: Kind>(portion: &K, zone: Option<Zone>, was: u32) -> Line
 {
     let left = portion.left();
     Line {
-        zone,
+        zone: zone_number(zone),
         month: portion.month(),
         used: was.saturating_sub(left),
         left,

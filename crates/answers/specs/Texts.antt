@@ -15,7 +15,7 @@ line_end = 10 ∷ []
 
 -- a printed line: L, D, T or R, its numbers, and its end
 abbrev pub line_text : Printed → List ℕ
-line_text (Line l) = 76 ∷ field (zone_number l.zone) (field l.month (field l.used (field l.left line_end)))
+line_text (Line l) = 76 ∷ field l.zone (field l.month (field l.used (field l.left line_end)))
 line_text (Due zone due) = 68 ∷ field (zone_number zone) (field due line_end)
 line_text (Turned refunded lost) = 84 ∷ field refunded (field lost line_end)
 line_text (Refused place number) = 82 ∷ field place (field number line_end)

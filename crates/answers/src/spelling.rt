@@ -5,8 +5,8 @@ ghost use Rattle.answers.specs.Texts.{line_end, line_text};
 
 use crate::kinds::Printed;
 use arrayvec::ArrayString;
-use hours::Zone;
 use itoa::Buffer;
+use settlement::zone_number;
 
 // The places of a line: a letter, at most four numbers of 20 digits with a blank before each, and the line's end.
 pub(crate) const PLACES: usize = 86;
@@ -36,16 +36,13 @@ impl Printed {
             Printed::Line(of) => spelt(
                 'L',
                 &[
-                    of.zone_number().into(),
+                    of.zone.into(),
                     of.month.into(),
                     of.used.into(),
                     of.left.into(),
                 ],
             ),
-            Printed::Due { zone, due } => spelt(
-                'D',
-                &[zone.map_or(0, Zone::number).into(), due.into()],
-            ),
+            Printed::Due { zone, due } => spelt('D', &[zone_number(zone).into(), due.into()]),
             Printed::Turned { refunded, lost } => spelt('T', &[refunded, lost]),
             Printed::Refused { place, number } => spelt('R', &[place as u64, number.into()]),
         }

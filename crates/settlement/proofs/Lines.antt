@@ -10,7 +10,7 @@ use Rattle.ledger.specs.Told.{RisingFrom}
 use Rattle.ledger.specs.Service.{taken_from}
 use Rattle.ledger.proofs.Lists.{Within, amounts_left_in, rising_taking}
 use Rattle.settlement.specs.declared.answers.Line.{Line}
-use Rattle.settlement.specs.Lines.{line_of, lines_of}
+use Rattle.settlement.specs.Lines.{line_of, lines_of, zone_number}
 
 module _ {T : Type 0} (zone : Option Zone) where
   pub few_lines_of : (before : List ℕ) (ps : List (Portion T)) → length (lines_of zone before ps) ≤ length ps
@@ -69,18 +69,18 @@ module _ {T : Type 0} where
       later k le = let other : eqb p.month k ≡ false = ne_eqb p.month k (λ e. omega (arith, le, e)) in omega (arith, ap (λ t. cond t x 0) other)
 
   -- so the lines tell what was taken
-  pub lines_less : (zone : Option Zone) (f : ℕ → ℕ) (before ps : List (Portion T)) → Less f before ps → lines_of zone (amounts_left_in before) ps ≡ map (λ (p : Portion T). record { zone = zone; month = p.month; used = f p.month; left = p.left }) ps
+  pub lines_less : (zone : Option Zone) (f : ℕ → ℕ) (before ps : List (Portion T)) → Less f before ps → lines_of zone (amounts_left_in before) ps ≡ map (λ (p : Portion T). record { zone = zone_number zone; month = p.month; used = f p.month; left = p.left }) ps
   lines_less zone f [] [] l = refl
   lines_less zone f [] (p ∷ ps) l = absurd l
   lines_less zone f (was ∷ before) [] l = absurd l
   lines_less zone f (was ∷ before) (p ∷ ps) l =
       let used : (line_of zone was.left p).used ≡ f p.month = omega (arith, l.0) in
       let rest = lines_less zone f before ps l.1 in
-      ap (λ u. record { zone = zone; month = p.month; used = u; left = p.left } ∷ lines_of zone (amounts_left_in before) ps) used ∙ ap (λ ls. record { zone = zone; month = p.month; used = f p.month; left = p.left } ∷ ls) rest
+      ap (λ u. record { zone = zone_number zone; month = p.month; used = u; left = p.left } ∷ lines_of zone (amounts_left_in before) ps) used ∙ ap (λ ls. record { zone = zone_number zone; month = p.month; used = f p.month; left = p.left } ∷ ls) rest
 
   -- and add up to it
   pub lines_sum : (zone : Option Zone) (f : ℕ → ℕ) (before ps : List (Portion T)) → Less f before ps →
-      left_in ps + total (λ (l : Line). l.used) (map (λ (p : Portion T). record { zone = zone; month = p.month; used = f p.month; left = p.left }) ps) ≡ left_in before
+      left_in ps + total (λ (l : Line). l.used) (map (λ (p : Portion T). record { zone = zone_number zone; month = p.month; used = f p.month; left = p.left }) ps) ≡ left_in before
   lines_sum zone f [] [] l = refl
   lines_sum zone f [] (p ∷ ps) l = absurd l
   lines_sum zone f (was ∷ before) [] l = absurd l

@@ -5,14 +5,14 @@ use Rattle.settlement.specs.declared.answers.Line.{Line}
 use Rattle.hours.specs.declared.zones.Zone.{Zone}
 use Rattle.hours.specs.Zones as zones
 
--- the number that stands for the zone of a line where it is printed: 0 for none, as a deposit has none
+-- the number that stands for a zone in a line and where it is printed: 0 for none, as a deposit has none
 abbrev pub zone_number : Option Zone → ℕ
 zone_number (Some zone) = zones.zone_number zone
 zone_number None = 0
 
 -- the line of a portion that had so much left before the settlement
 abbrev pub line_of : {T : Type 0} → Option Zone → ℕ → Portion T → Line
-line_of zone was p = record { zone = zone; month = p.month; used = was - p.left; left = p.left }
+line_of zone was p = record { zone = zone_number zone; month = p.month; used = was - p.left; left = p.left }
 
 -- a line for each portion of a zone, from what was left in each before and the portions after
 abbrev pub lines_of : {T : Type 0} → Option Zone → List ℕ → List (Portion T) → List Line

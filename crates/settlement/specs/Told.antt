@@ -8,6 +8,7 @@ use Rattle.ledger.specs.Ledger.{Ledger}
 use Rattle.ledger.specs.Steps.{takings}
 use Rattle.ledger.specs.Service.{taken_from}
 use Rattle.settlement.specs.declared.answers.Line.{Line}
+use Rattle.settlement.specs.Lines.{zone_number}
 use Rattle.settlement.specs.Accounts.{Workings, Covering}
 use Rattle.settlement.specs.History.{History}
 use Rattle.settlement.specs.Inside.{store_after}
@@ -29,7 +30,7 @@ module _ {O A S Z T : Type 0} (works : Workings O A S Z T) where
   lines_for o h a rule z =
       map
       (λ (p : Portion T). record {
-        zone = works.mark z;
+        zone = zone_number (works.mark z);
         month = p.month;
         used = took o h rule z (works.coverings rule a) p.month;
         left = p.left;

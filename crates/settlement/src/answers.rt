@@ -6,23 +6,21 @@ use crate::zones::Zones;
 use faults::AccountFault;
 use hours::{MonthSums, Zone};
 
-// An open portion in a settlement: its zone, which a deposit has none, its month, what the settlement used of it, and what
-// is left.
+// An open portion in a settlement: the number of its zone, 0 for a deposit, which has none, its month, what the settlement
+// used of it, and what is left. A caller may hold and print lines of any number.
 #[derive(Clone, Copy, Default)]
 pub struct Line {
-    pub zone: Option<Zone>,
+    pub zone: u8,
     pub month: u16,
     pub used: u32,
     pub left: u32,
 }
 
-impl Line {
-    // The number that stands for the zone where the line is printed, 0 for a deposit.
-    pub fn zone_number(&self) -> u8
-        ensures { result ≡ zone_number self.now.zone }
-    {
-        self.zone.map_or(0, Zone::number)
-    }
+// The number that stands for a zone in a line and where it is printed, 0 for none, as a deposit has none.
+pub fn zone_number(zone: Option<Zone>) -> u8
+    ensures { result ≡ zone_number zone }
+{
+    zone.map_or(0, Zone::number)
 }
 
 // What a settlement covered and left due in each zone, in Wh, and the number of lines that it wrote, which stand in the

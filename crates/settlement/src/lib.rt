@@ -22,7 +22,7 @@ mod standing;
 mod states;
 mod zones;
 
-pub use answers::{Line, Payment, Returned, Settlement};
+pub use answers::{Line, Payment, Returned, Settlement, zone_number};
 pub use hours::Zone;
 pub use standing::{Account, Standing};
 pub use states::{Call, MonthState, Period};
