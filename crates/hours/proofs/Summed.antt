@@ -53,6 +53,11 @@ passes : {A : Type 0} (b : Bool) (made : b ≡ true → A) (a : A) → b ≡ tru
 passes true made a e k = ap Some (k refl)
 passes false made a e k = absurd (false≢true e)
 
+-- and nothing else
+passed : {A : Type 0} (b : Bool) (made : b ≡ true → A) (a : A) → if_passed b made ≡ Some a → (e : b ≡ true) × (made e ≡ a)
+passed true made a e = (refl, cc)
+passed false made a e = let z : false ≡ true = cc in absurd (false≢true z)
+
 -- every month's sums keep the bounds
 pub sums_are : (s : MonthSums) → sums_within s.month s.totals ≡ Some s
 unfolding sums_within
@@ -60,6 +65,13 @@ sums_are s =
     let h : KeepsBounds s.month s.totals = (s.dated, (s.zoned, (s.energy, (s.charged, s.valued)))) in
     let w = within_decides s.month s.totals in
     passes (within s.month s.totals) _ s (w.1 h) (λ e. same_sums s (w.0 e))
+
+-- the sums have the month and the totals given
+pub within_says : (m : ℕ) (y : Totals) (s : MonthSums) → sums_within m y ≡ Some s → (s.month ≡ m) × (s.totals ≡ y)
+unfolding sums_within
+within_says m y s e =
+    let p = passed (within m y) _ s e in
+    (sym (ap (λ (x : MonthSums). x.month) p.1), sym (ap (λ (x : MonthSums). x.totals) p.1))
 
 -- the totals of a month that was read, by the marks and the sale prices given
 pub month_totals : (t : Terms) (m : ℕ) (marks : List (List ℕ)) (sale : List ℕ) (hs : List HourRead) (totals : Totals)
