@@ -15,9 +15,7 @@ fn told(heap: Global, lines: &[Line], count: usize, due: [u32; 3]) -> Result<Str
         write!(
             text,
             "zone {} used {} left {}, ",
-            line.zone_number(),
-            line.used,
-            line.left
+            line.zone, line.used, line.left
         )?;
     }
     let [one, two, three] = due;
