@@ -86,6 +86,18 @@ impl<'a> Accounts<'a> {
         &self.billing
     }
 
+    // Hands the two accounts out, as they stand, to be called by whoever takes them.
+    pub fn into_parts(self) -> (Metering<'a>, Billing<'a>)
+        ensures { result ≡ (self.entry.metering, self.entry.billing) }
+    {
+        let Accounts {
+            opened: _,
+            metering,
+            billing,
+        } = self;
+        (metering, billing)
+    }
+
     // The month of the open account.
     pub(crate) fn month(&self) -> Result<u16, ProgramFault>
         ensures { result ≡ in_place (own_month (account_of self.now)) }
