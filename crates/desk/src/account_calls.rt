@@ -17,6 +17,7 @@ use portions::dated::Dated;
 use portions::oldest_first::OldestFirst;
 use portions::proportional::Proportional;
 use settlement::{Account, Line, Returned};
+use std::mem::replace;
 
 // The two sorts of account.
 #[derive(Clone, Copy, PartialEq, Eq, Debug)]
@@ -84,6 +85,38 @@ impl<'a> Accounts<'a> {
         ensures { result.now ≡ self.now.billing }
     {
         &self.billing
+    }
+
+    // Takes the metering account out for another.
+    pub(crate) fn replace_metering(&mut self, metering: Metering<'a>) -> Metering<'a>
+        ensures out { result ≡ self.old.metering }
+        ensures put_in { self.new.metering ≡ metering.entry }
+        ensures billing { self.new.billing ≡ self.old.billing }
+        ensures opened { self.new.opened ≡ self.old.opened }
+    {
+        replace(&mut self.metering, metering)
+    }
+
+    // Takes the billing account out for another.
+    pub(crate) fn replace_billing(&mut self, billing: Billing<'a>) -> Billing<'a>
+        ensures out { result ≡ self.old.billing }
+        ensures put_in { self.new.billing ≡ billing.entry }
+        ensures metering { self.new.metering ≡ self.old.metering }
+        ensures opened { self.new.opened ≡ self.old.opened }
+    {
+        replace(&mut self.billing, billing)
+    }
+
+    // Hands the two accounts out, as they stand, to be called by whoever takes them.
+    pub fn into_parts(self) -> (Metering<'a>, Billing<'a>)
+        ensures { result ≡ (self.entry.metering, self.entry.billing) }
+    {
+        let Accounts {
+            opened: _,
+            metering,
+            billing,
+        } = self;
+        (metering, billing)
     }
 
     // The month of the open account.

@@ -52,6 +52,29 @@ impl<'a> Desk<'a> {
         &self.accounts
     }
 
+    // Takes the metering account out for another, so that anything can be called on it between two
+    // records; the same call puts it back. Which account is told as open stays, and so does the book.
+    pub fn replace_metering(&mut self, metering: Metering<'a>) -> Metering<'a>
+        ensures out { result ≡ self.old.accounts.metering }
+        ensures put_in { self.new.accounts.metering ≡ metering.entry }
+        ensures billing { self.new.accounts.billing ≡ self.old.accounts.billing }
+        ensures opened { self.new.accounts.opened ≡ self.old.accounts.opened }
+        ensures book { self.new.book ≡ self.old.book }
+    {
+        self.accounts.replace_metering(metering)
+    }
+
+    // The same of the billing account.
+    pub fn replace_billing(&mut self, billing: Billing<'a>) -> Billing<'a>
+        ensures out { result ≡ self.old.accounts.billing }
+        ensures put_in { self.new.accounts.billing ≡ billing.entry }
+        ensures metering { self.new.accounts.metering ≡ self.old.accounts.metering }
+        ensures opened { self.new.accounts.opened ≡ self.old.accounts.opened }
+        ensures book { self.new.book ≡ self.old.book }
+    {
+        self.accounts.replace_billing(billing)
+    }
+
     // Ends the desk, and hands the accounts back. An open book is let go.
     pub fn into_accounts(self) -> Accounts<'a>
         ensures { result ≡ self.entry.accounts }
