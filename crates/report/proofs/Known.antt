@@ -1,7 +1,5 @@
 -- A source whose bytes are known, over reads that a signal interrupts and reads that bring something.
-use Rattle.std.proofs.Common.{◌≡◌, ℕ, ◌+◌, ◌≤◌, List, ◌++◌, length, take, Some, None, Ok, Err, Option, Result, sym, refl, ap, ◌∙◌, append_assoc, arith}
-use Rattle.std.proofs.lemmas.List.{take_all, take-append-le, take-take}
-use Rattle.std.proofs.Math.Seq.{take-append-add, take-append_seam}
+use Rattle.std.proofs.Common.{ℕ, List, Some, None, Ok, Err, Option, Result, sym, refl, ◌∙◌}
 use Rattle.std.specs.Io.KnownBytes.{Consumes, Keeps, ReadConsumes}
 
 -- bytes that stay stay on
@@ -25,20 +23,3 @@ consumes_on (Some xs) (Some ys) (Some zs) bs k l = sym k ∙ l
 pub reads_after : {E : Type 0} (a b c : Option (List ℕ)) (r : Result ℕ E) (buf : List ℕ) → Keeps a b → ReadConsumes b c r buf → ReadConsumes a c r buf
 reads_after a b c (Ok n) buf k l = (consumes_on a b c _ k l.0, l.1)
 reads_after a b c (Err e) buf k l = keeps_on a b c k l
-
--- what was held, and zeros behind it, begins with what was held
-pub begins : (old zeros : List ℕ) (more : ℕ) → take (length old) (take (length old + more) old ++ zeros) ≡ old
-begins old zeros more =
-    let l : length old ≤ length old + more = omega arith in
-    ap (λ xs. take (length old) (xs ++ zeros)) (take_all (length old + more) old l) ∙ take-append_seam old zeros
-
--- what is held after a piece was read behind it, and the room that it left was given back
-pub held_more : (old all buffer post behind : List ℕ) (start n room : ℕ) → start ≡ length old → take start all ≡ old → n ≤ length buffer → start + n ≤ room →
-    take (start + n) (take room ((take start all ++ (buffer ++ post)) ++ behind)) ≡ old ++ take n buffer
-held_more old all buffer post behind start n room es front fits within =
-    take-take (start + n) room _ within
-    ∙ ap (λ xs. take (start + n) ((xs ++ (buffer ++ post)) ++ behind)) front
-    ∙ ap (λ xs. take (start + n) xs) (append_assoc old (buffer ++ post) behind ∙ ap (λ xs. old ++ xs) (append_assoc buffer post behind))
-    ∙ ap (λ k. take (k + n) (old ++ (buffer ++ (post ++ behind)))) es
-    ∙ take-append-add old (buffer ++ (post ++ behind)) n
-    ∙ ap (λ xs. old ++ xs) (take-append-le n buffer (post ++ behind) fits)

@@ -1,5 +1,5 @@
 // A run over a file that comes in pieces. Only the bytes that are not yet served are kept.
-ghost use Rattle.std.specs.Prelude.{◌≡◌, ◌-◌, ◌≤◌, ◌++◌, List, ℕ, drop, length, IfOk, IfSome, string_bytes, vec_len};
+ghost use Rattle.std.specs.Prelude.{◌≡◌, ◌-◌, ◌<◌, ◌≤◌, ◌++◌, List, ℕ, drop, length, IfOk, IfSome, string_bytes, vec_len};
 ghost use Rattle.std.specs.Io.{ReadsAtMost};
 ghost use Rattle.std.specs.Io.KnownBytes.{Consumes, IsAtEnd, ReadConsumes};
 ghost use Rattle.desk.specs.State.{outset};
@@ -29,14 +29,14 @@ fn read_some<R: Read>(source: &mut R, buffer: &mut [u8]) -> io::Result<usize>
     Err(io::Error::from(ErrorKind::Interrupted))
 }
 
-// Reads a piece behind the bytes that are held: how many bytes it has, none only at the source's end.
-fn read_piece<R: Read>(source: &mut R, held: &mut Vec<u8>) -> io::Result<usize>
+// Reads a piece, and puts it behind the bytes that are held: how many bytes it has, none only at the source's end. The room that it
+// is read into is lent, and cleared once: a source may give few bytes at a time.
+fn read_piece<R: Read>(source: &mut R, piece: &mut [u8], held: &mut Vec<u8>) -> io::Result<usize>
+    requires { 0 < length piece.old }
     ensures { IfOk result (λ n. (piece : List ℕ) × (held.new.items ≡ held.old.items ++ piece) × (n ≡ length piece) × Consumes (R.remaining source.old) (R.remaining source.new) piece × (n ≡ 0 → IsAtEnd (R.remaining source.new))) }
 {
-    let start = held.len();
-    held.resize(start + PIECE, 0)?;
-    let count = read_some(source, &mut held[start..])?;
-    held.truncate(start + count);
+    let count = read_some(source, piece)?;
+    held.extend_from_slice(&piece[..count])?;
     Ok(count)
 }
 
@@ -46,6 +46,9 @@ fn keep_last(held: &mut Vec<u8>, count: usize)
     ensures { held.new.items ≡ drop (vec_len held.old - count) held.old.items }
 {
     let start = held.len() - count;
+    if start == 0 {
+        return;
+    }
     held.copy_within(start.., 0);
     held.truncate(count);
 }
@@ -56,10 +59,11 @@ fn run_from<R: Read>(heap: Global, work: &mut Workplace<'_>, source: &mut R) -> 
     ensures { IfOk result (λ text. IfSome (R.remaining source.old) (λ file. string_bytes text ≡ report_text file)) }
 {
     let mut out = String::new(heap);
+    let mut piece = [0; PIECE];
     let mut held = Vec::new(heap);
     let mut place = 0;
     for _turn in 0..u64::MAX {
-        if read_piece(source, &mut held)? == 0 {
+        if read_piece(source, &mut piece, &mut held)? == 0 {
             print_end(&mut out, place, &held)?;
             return Ok(out);
         }
