@@ -79,7 +79,7 @@ zone_at_place : (zs : List Zone) (c : ℕ) → zone_in (packed zs) c ≡ get_or 
 zone_at_place zs c = ap zone_of_bits (bits_at_place zs c) ∙ bits_stand (get_or zs c First)
 
 -- the zones of a packed row are those that were packed
-zones_packed : (zs : List Zone) → length zs ≡ 24 → zones_in (packed zs) ≡ zs
+pub zones_packed : (zs : List Zone) → length zs ≡ 24 → zones_in (packed zs) ≡ zs
 unfolding zones_in
 zones_packed zs l = sym (fill_by_all (λ c. zone_in (packed zs) c) zs 24 First l (λ k h. sym (zone_at_place zs k)))
 
@@ -104,23 +104,28 @@ packed_by_marks (z ∷ zs) = ap (λ n. zone_bits z + 4 * n) (packed_by_marks zs)
 packed_alike : (xs ys : List Zone) → marks_of xs ≡ marks_of ys → packed xs ≡ packed ys
 packed_alike xs ys e = packed_by_marks xs ∙ ap packed_marks e ∙ sym (packed_by_marks ys)
 
+-- marks that unpack to two rows have the zones that these name
+pub marked_by : (m : Marks) (rows : List (List ℕ)) → rows_of m ≡ rows
+    → (weekend : Bool) (c : ℕ) → c < 24 → zone_number (zone_kept m weekend c) ≡ mark_at rows weekend c
+marked_by m rows e weekend c h = named weekend ∙ ap (λ x. mark_at x weekend c) e
+  where
+    named : (weekend : Bool) → zone_number (zone_kept m weekend c) ≡ mark_at (rows_of m) weekend c
+    named true = mark_in m.weekend c h
+    named false = mark_in m.working c h
+
 -- marks that are the zones of two rows, packed, are those of the rows
-pub marked_by : (m : Marks) (rows : List (List ℕ)) (working weekend : List Zone) → length working ≡ 24 → length weekend ≡ 24
+pub packed_marked_by : (m : Marks) (rows : List (List ℕ)) (working weekend : List Zone) → length working ≡ 24 → length weekend ≡ 24
     → m.working ≡ packed working → m.weekend ≡ packed weekend → marks_of working ∷ marks_of weekend ∷ [] ≡ rows → MarkedBy m rows
-marked_by m rows working weekend l k p q e = record {
+packed_marked_by m rows working weekend l k p q e = record {
   unpacked = unpacked;
   numbers = λ xs ys r.
       let same = e ∙ sym r in
       (p ∙ packed_alike working xs (ap (λ x. get_or x 0 []) same), q ∙ packed_alike weekend ys (ap (λ x. get_or x 1 []) same));
-  named = λ weekend c h. named weekend c h ∙ ap (λ x. mark_at x weekend c) unpacked;
+  named = marked_by m rows unpacked;
 }
   where
     unpacked : rows_of m ≡ rows
     unpacked = ap₂ (λ (x y : List Zone). marks_of x ∷ marks_of y ∷ []) (ap zones_in p ∙ zones_packed working l) (ap zones_in q ∙ zones_packed weekend k) ∙ e
-
-    named : (weekend : Bool) (c : ℕ) → c < 24 → zone_number (zone_kept m weekend c) ≡ mark_at (rows_of m) weekend c
-    named true c h = mark_in m.weekend c h
-    named false c h = mark_in m.working c h
 
 -- marks of the same rows are the same numbers
 pub same_numbers : (m m' : Marks) (rows : List (List ℕ)) → MarkedBy m rows → MarkedBy m' rows → (m.working ≡ m'.working) × (m.weekend ≡ m'.weekend)
